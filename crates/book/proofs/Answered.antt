@@ -3,7 +3,7 @@ use Rattle.std.proofs.Common.{◌≡◌, ◌≢◌, ℕ, zero, suc, ◌+◌, ◌
 use Rattle.std.proofs.Common.{Some, None, IsSome, All, List, [], ◌∷◌, ◌++◌, length, map, refl, sym, ap, ap₂}
 use Rattle.std.proofs.Common.{◌∙◌, arith, slice_get, slice_set, subst, ◌==◌, eqb-true, eq-eqb}
 use Rattle.std.specs.Prelude.{IsSomeAnd, option_and_then, slice_index}
-use Rattle.std.proofs.lemmas.Option.{get_or_from_slice_get, slice_get_within}
+use Rattle.std.proofs.lemmas.Option.{get_or_from_slice_get, slice_get_past, same_Some, slice_get_within}
 use Rattle.std.proofs.lemmas.Bool.{true≢false}
 use Rattle.std.proofs.lemmas.List.{length_push}
 use Rattle.sched_program.specs.Program.{Program}
@@ -37,10 +37,6 @@ set_elsewhere (y ∷ xs) zero zero x apart = absurd (apart refl)
 set_elsewhere (y ∷ xs) zero (suc u) x apart = refl
 set_elsewhere (y ∷ xs) (suc t) zero x apart = refl
 set_elsewhere (y ∷ xs) (suc t) (suc u) x apart = set_elsewhere xs t u x (λ e. apart (ap suc e))
-
-past_end : {X : Type 0} (xs : List X) → slice_get xs (length xs) ≡ None
-past_end [] = refl
-past_end (x ∷ xs) = past_end xs
 
 some_below : {X : Type 0} (xs : List X) (i : ℕ) → i < length xs → IsSome (slice_get xs i)
 some_below xs i less = let there = get_at xs i less in subst IsSome (sym there.1) refl
@@ -85,7 +81,7 @@ module _ {Machine Memory Place Form : Type 0} (state : State Machine Memory Plac
   same_replies now kept b at =
       let is : now ≡ b = (let q : Some now ≡ Some b = sym (get_set state.threads t now thread there) ∙ at in cc) in
       let all : b.replies ≡ thread.replies = sym (ap (λ (x : Thread Place). x.replies) is) ∙ kept ∙ replies in
-      ap (λ (xs : List Bool). slice_get xs (length thread.replies)) all ∙ past_end thread.replies
+      ap (λ (xs : List Bool). slice_get xs (length thread.replies)) all ∙ slice_get_past thread.replies _ (omega arith)
 
   has_answered : (acted : Memory × Outcome Place) (b : Thread Place) (r : Bool)
       → slice_get (after_access state t begun acted).threads t ≡ Some b
@@ -124,20 +120,16 @@ module _ {Machine Memory Place Form : Type 0} (rules : Rules Memory Place) (prog
   replies_now : map (λ (x : Thread Place). x.replies) next.threads
       ≡ slice_set (map (λ (x : Thread Place). x.replies) state.threads) t (thread.replies ++ r ∷ [])
   replies_now =
-      ap (map (λ (x : Thread Place). x.replies)) answered.threads
-      ∙ map-set (λ (x : Thread Place). x.replies) state.threads t answered.now
-      ∙ ap (slice_set (map (λ (x : Thread Place). x.replies) state.threads) t) answered.replies
+      rw (answered.threads, map-set (λ (x : Thread Place). x.replies) state.threads t answered.now, answered.replies)
+      refl
 
   notes_now : map (λ (x : Thread Place). x.notes) next.threads
       ≡ slice_set (map (λ (x : Thread Place). x.notes) state.threads) t (thread.notes ++ answered.more)
   notes_now =
-      ap (map (λ (x : Thread Place). x.notes)) answered.threads
-      ∙ map-set (λ (x : Thread Place). x.notes) state.threads t answered.now
-      ∙ ap (slice_set (map (λ (x : Thread Place). x.notes) state.threads) t) answered.notes
+      rw (answered.threads, map-set (λ (x : Thread Place). x.notes) state.threads t answered.now, answered.notes) refl
 
   now_there : slice_get next.threads t ≡ Some answered.now
-  now_there = ap (λ (ts : List (Thread Place)). slice_get ts t) answered.threads
-      ∙ get_set state.threads t answered.now thread there
+  now_there = rw answered.threads (get_set state.threads t answered.now thread there)
 
   -- the operation began, since each reply has its note
   note_there : length thread.replies < length answered.now.notes
@@ -228,21 +220,17 @@ step_replied {Machine} {Memory} {Place} {Form} rules program state next t leads 
     stated last =
     step_parts rules program (HasReplied (history_of state) (history_of next) ended r) state next t leads
     (λ own there op op_is made.
-    let same : own ≡ a = (let q : Some own ≡ Some a = sym there ∙ at_a in cc) in
+    let same = same_Some own a (sym there ∙ at_a) in
     let more = more_notes own.place own.notes (finished_counts state.threads) in
-    let at_made : slice_get (stepped rules state t op own).threads t ≡ Some b =
-    ap (λ (s : State Machine Memory Place Form). slice_get s.threads t) (sym made) ∙ at_b in
-    let own_stated : slice_get b.replies (length own.replies) ≡ Some r =
-    subst (λ (x : Thread Place). slice_get b.replies (length x.replies) ≡ Some r) (sym same) stated in
+    let at_made : slice_get (stepped rules state t op own).threads t ≡ Some b = rw made at at_b in
+    let own_stated : slice_get b.replies (length own.replies) ≡ Some r = rw same stated in
     let answered : HasAnswered state.threads t own r next.threads =
-    subst (λ (s : State Machine Memory Place Form). HasAnswered state.threads t own r s.threads) (sym made)
-    (has_answered state t own (at_step rules state op own) there refl more.0 more.1
+    rw made (has_answered state t own (at_step rules state op own) there refl more.0 more.1
     (rules.act op (place_or own.place (rules.first op)) state.memory) b r at_made own_stated) in
-    let index_own : ended.index ≡ length own.replies = index ∙ ap (λ (x : Thread Place). length x.replies) (sym same) in
+    let index_own : ended.index ≡ length own.replies = rw same index in
     let named : name t (length own.replies) ≡ ended = ap₂ name (sym thread) (sym index_own) in
     let last_own : All (λ (x : Thread Place). All (λ note. slice_index note t ≤ length own.replies) x.notes)
     next.threads =
     subst (λ (e : OpId). All (λ (x : Thread Place). All (λ note. slice_index note e.thread ≤ e.index) x.notes)
     next.threads) (sym named) last in
-    subst (λ (e : OpId). HasReplied (history_of state) (history_of next) e r) named
-    (has_replied rules program state next t own r there answered fits last_own))
+    rw (← named) (has_replied rules program state next t own r there answered fits last_own))

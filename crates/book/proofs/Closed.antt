@@ -1,6 +1,5 @@
 -- The states of a book with no entry left are closed, so they stand for every state that a schedule reaches.
-use Rattle.std.proofs.Common.{◌≡◌, ℕ, Bool, true, not, Some, None, List, position, sym, ap, ◌∙◌}
-use Rattle.std.proofs.lemmas.Bool.{true≢false}
+use Rattle.std.proofs.Common.{◌≡◌, ℕ, Bool, true, not, Some, None, List, position}
 use Rattle.replay.specs.declared.finding.Finding.{Finding}
 use Rattle.replay.specs.Schedule.{AreOneBy, StepMachine, IsMachine, Merges}
 use Rattle.book.specs.Entries.{Entry, At, is_expanded, states}
@@ -9,7 +8,7 @@ use Rattle.replay.specs.Findings.{IsSound}
 use Rattle.replay.specs.Closed.{IsAlikeToOneOf, AreClosed, HoldsForEvery}
 use Rattle.replay.specs.Laws.Schedules.{covered}
 use Rattle.book.specs.Closed.{IsWorkedOut, AreSound}
-use Rattle.book.proofs.Marks.{expanded_from}
+use Rattle.book.proofs.Marks.{expanded_from, not_expanded_from}
 use Rattle.book.proofs.Next.{first_passes, none_passes}
 use Rattle.book.proofs.Unknown.{at-states, states-at}
 use Rattle.book.proofs.Ways.{fits_after}
@@ -24,9 +23,7 @@ pub left_out : {S : Type 0} (es : List (Entry S)) (i : ℕ) → position (λ e. 
     → IsWorkedOut es → ⊥
 left_out {S} es i first out =
     let f = first_passes (λ (r : Entry S). not (is_expanded r.mark)) es i first in
-    let q : is_expanded f.0.mark ≡ true = ap is_expanded (out i f.0 f.1) in
-    let t : not (is_expanded f.0.mark) ≡ true = f.2 in
-    true≢false (sym t ∙ ap not q)
+    not_expanded_from f.0.mark f.2 (out i f.0 f.1)
 
 module _ {S : Type 0} (m : StepMachine S) (same : S → S → Bool) (right : S → Finding → Type 0)
     (machine : IsMachine m) (merges : Merges m same)

@@ -1,8 +1,9 @@
 -- How many states the schedules reach.
 use Rattle.std.proofs.Common.{◌≡◌, ℕ, zero, suc, ◌+◌, ◌<◌, ◌≤◌, inl, inr, Bool, true, false, Some, None, List, [], ◌∷◌}
-use Rattle.std.proofs.Common.{◌++◌, length, take, count_by, cond, refl, sym, ap, ◌∙◌, arith, slice_get, leb}
+use Rattle.std.proofs.Common.{◌++◌, length, take, count_by, refl, sym, ap, ◌∙◌, arith, slice_get, leb}
 use Rattle.std.proofs.Math.ListN.{length-map}
 use Rattle.std.proofs.lemmas.Bool.{true≢false, cases_lt, le-leb, leb-true, cases_Bool, false_from_ne_true}
+use Rattle.std.proofs.lemmas.Option.{same_Some}
 use Rattle.std.proofs.lemmas.List.{length_push, length-take-le}
 use Rattle.std.proofs.lemmas.List.Sums.{sum_by-cons, count_by-le-length}
 use Rattle.replay.specs.declared.finding.Finding.{Finding}
@@ -43,25 +44,16 @@ module _ {S : Type 0} (m : StepMachine S) (same : S → S → Bool) (right : S �
         | inl pos ↦ (
             let step = law.origins i e at pos in
             let earlier : step.origin.parent < i = step.earlier in
-            let up : m.steps e.state ≡ m.steps step.parent.state + 1 =
-            machine.one_more step.parent.state e.state step.origin.thread step.step in
-            let c = recorded_by n step.origin.parent step.parent step.entered (omega arith) in
-            let l : length c.0 ≡ m.steps step.parent.state = c.2 in
-            let p : length (c.0 ++ step.origin.thread ∷ []) ≡ length c.0 + 1 = length_push c.0 step.origin.thread in (
+            let c = recorded_by n step.origin.parent step.parent step.entered (omega arith) in (
               c.0 ++ step.origin.thread ∷ [],
-              run_push m c.0 m.start step.parent.state e.state step.origin.thread c.1
-                  step.step,
-              omega arith,
+              run_push m c.0 m.start step.parent.state e.state step.origin.thread c.1 step.step,
+              simp length_push
+                  (omega (arith, c.2, machine.one_more step.parent.state e.state step.origin.thread step.step)),
             ))
         | inr none ↦ (
             let zero_at : i ≡ 0 = omega arith in
-            let first : slice_get es 0 ≡ Some law.start.0 = law.start.1 in
-            let e_is : slice_get es i ≡ Some e = at in
-            let q : law.start.0 ≡ e = cc in
-            let s : m.start ≡ e.state = sym law.start.2 ∙ ap (λ (x : Entry S). x.state) q in
-            let z : m.steps m.start ≡ 0 = machine.from_zero in
-            let z' : m.steps m.start ≡ m.steps e.state = ap m.steps s in
-            ([], ap Some s, omega arith))
+            let q = same_Some law.start.0 e (sym law.start.1 ∙ (rw zero_at at at)) in
+            rw (← q, law.start.2) ([], refl, sym machine.from_zero))
       ]
 
   -- each entry's state is reached by a schedule of as many steps
@@ -75,31 +67,26 @@ module _ {S : Type 0} (m : StepMachine S) (same : S → S → Bool) (right : S �
       → ((i : ℕ) (e : Entry S) → At es i e → m.steps e.state ≤ n → i < k)
       → ((s : S) (c : List ℕ) → after m c ≡ Some s → m.steps s ≡ length c)
       → IsCount m (AreOneBy same) n k
-  count_is n k done bounded below above steps_of = record {
+  count_is n k done within below above steps_of = record {
     states = take k (states es);
-    many = length-take-le k (states es)
-        (let l : length (states es) ≡ length es = length-map es (λ (e : Entry S). e.state) in omega arith);
+    many = length-take-le k (states es) (simp length-map within);
     apart = (λ i j x y at_i at_j h.
         let a = get-take k (states es) i x at_i in
         let b = get-take k (states es) j y at_j in
         let d = at-states es i x a.1 in
         let e = at-states es j y b.1 in
-        law.distinct i j d.0 e.0 d.1 e.1 (let p : d.0.state ≡ x = d.2 in let q : e.0.state ≡ y = e.2 in cc));
+        law.distinct i j d.0 e.0 d.1 e.1 (rw (d.2, e.2) h));
     reached = (λ i x at.
         let a = get-take k (states es) i x at in
         let d = at-states es i x a.1 in
         let c = recorded i d.0 d.1 in
-        let steps_bounded : m.steps d.0.state ≤ n = below i d.0 d.1 a.0 in
-        let l : length c.0 ≡ m.steps d.0.state = c.2 in
-        (c.0, omega arith, c.1 ∙ ap Some d.2));
+        (c.0, omega (arith, below i d.0 d.1 a.0, c.2), c.1 ∙ ap Some d.2));
     all = (λ s r.
         let w = stands_after m same right machine merges es law n done r.0 s r.1 r.2 in
-        let l : m.steps s ≡ length r.0 = steps_of s r.0 r.2 in
-        let r_short : length r.0 ≤ n = r.1 in
-        let less : m.steps w.1.state ≤ m.steps s = w.4 in (
+        let less : m.steps w.1.state ≤ n = omega (arith, steps_of s r.0 r.2, r.1, w.4) in (
           w.0,
           w.1.state,
-          take-get k (states es) w.0 w.1.state (above w.0 w.1 w.2 (omega arith))
+          take-get k (states es) w.0 w.1.state (above w.0 w.1 w.2 less)
               (states-at es w.0 w.1 w.2),
           w.3,
         ));
@@ -108,11 +95,7 @@ module _ {S : Type 0} (m : StepMachine S) (same : S → S → Bool) (right : S �
 module _ {X : Type 0} (p : X → Bool) where
   count_none : (xs : List X) → ((i : ℕ) (x : X) → slice_get xs i ≡ Some x → p x ≡ false) → count_by p xs ≡ 0
   count_none [] h = refl
-  count_none (x ∷ xs) h =
-      let a : count_by p (x ∷ xs) ≡ cond {A = ℕ} (p x) 1 0 + count_by p xs =
-      sum_by-cons (λ (y : X). cond {A = ℕ} (p y) 1 0) x xs in
-      let b : cond {A = ℕ} (p x) 1 0 ≡ 0 = ap (λ b. cond {A = ℕ} b 1 0) (h 0 x refl) in
-      let c : count_by p xs ≡ 0 = count_none xs (λ i y at. h (suc i) y at) in omega arith
+  count_none (x ∷ xs) h = simp sum_by-cons (rw (h 0 x refl) (omega (arith, count_none xs (λ i. h (suc i)))))
 
   -- where those that pass come first, they are the first `count_by p xs`
   pub count_first : (xs : List X)
@@ -120,33 +103,23 @@ module _ {X : Type 0} (p : X → Bool) where
       → (i : ℕ) (x : X) → slice_get xs i ≡ Some x → (p x ≡ true → i < count_by p xs) × (i < count_by p xs → p x ≡ true)
   count_first [] down i x at = absurd (let q : None ≡ Some x = at in cc)
   count_first (w ∷ xs) down zero x at =
-      let a : count_by p (w ∷ xs) ≡ cond {A = ℕ} (p w) 1 0 + count_by p xs =
-      sum_by-cons (λ (y : X). cond {A = ℕ} (p y) 1 0) w xs in
       let same : w ≡ x = cc in
       elim (cases_Bool (p x)) [
-        | inl t ↦ (let c : cond {A = ℕ} (p w) 1 0 ≡ 1 = ap (λ y. cond {A = ℕ} (p y) 1 0) same
-            ∙ ap (λ b. cond {A = ℕ} b 1 0) t in ((λ _. omega arith), (λ _. t)))
+        | inl t ↦ (let one : p w ≡ true = rw same t in simp sum_by-cons (rw one ((λ _. omega arith), (λ _. t))))
         | inr f ↦ (
-            let n : count_by p (w ∷ xs) ≡ 0 =
-            count_none (w ∷ xs)
-            (λ j y there. false_from_ne_true (p y)
+            let n = count_none (w ∷ xs) (λ j y there. false_from_ne_true (p y)
             (λ h. true≢false (sym (down 0 j x y (omega arith) at there h) ∙ f))) in
-            ((λ h. absurd (true≢false (sym h ∙ f))), (λ l. absurd (omega arith))))
+            ((λ h. absurd (true≢false (sym h ∙ f))), (λ l. absurd (omega (arith, n)))))
       ]
   count_first (w ∷ xs) down (suc i) x at =
-      let a : count_by p (w ∷ xs) ≡ cond {A = ℕ} (p w) 1 0 + count_by p xs =
-      sum_by-cons (λ (y : X). cond {A = ℕ} (p y) 1 0) w xs in
-      let r = count_first xs (λ j k y z le at_j at_k h. down (suc j) (suc k) y z (omega arith) at_j at_k h) i x at in
+      let r = count_first xs (λ j k y z le at_j at_k. down (suc j) (suc k) y z (omega arith) at_j at_k) i x at in
       elim (cases_Bool (p w)) [
-        | inl t ↦ (let c : cond {A = ℕ} (p w) 1 0 ≡ 1 = ap (λ b. cond {A = ℕ} b 1 0) t in
-            ((λ h. let l : i < count_by p xs = r.0 h in omega arith), (λ l. r.1 (omega arith))))
+        | inl t ↦ simp sum_by-cons (rw t ((λ h. omega (arith, r.0 h)), (λ l. r.1 (omega arith))))
         | inr f ↦ (
-            let none : (h : p x ≡ true) → ⊥ = λ h. true≢false (sym (down 0 (suc i) w x (omega arith) refl at h) ∙ f) in
-            let n : count_by p (w ∷ xs) ≡ 0 =
-            count_none (w ∷ xs)
-            (λ j y there. false_from_ne_true (p y)
-            (λ h. true≢false (sym (down 0 j w y (omega arith) refl there h) ∙ f))) in
-            ((λ h. absurd (none h)), (λ l. absurd (omega arith))))
+            let none : (j : ℕ) (y : X) → slice_get (w ∷ xs) j ≡ Some y → p y ≡ true → ⊥ =
+            λ j y there h. true≢false (sym (down 0 j w y (omega arith) refl there h) ∙ f) in
+            let n = count_none (w ∷ xs) (λ j y there. false_from_ne_true (p y) (none j y there)) in
+            ((λ h. absurd (none (suc i) x at h)), (λ l. absurd (omega (arith, n)))))
       ]
 
 -- where the first k pass and no other does, k is their number
@@ -155,14 +128,10 @@ pub count_upto : {X : Type 0} (p : X → Bool) (xs : List X) (k : ℕ) → k ≤
     → ((i : ℕ) (x : X) → slice_get xs i ≡ Some x → k ≤ i → p x ≡ false) → k ≡ count_by p xs
 count_upto p [] k within below above = omega arith
 count_upto p (w ∷ xs) zero within below above = sym (count_none p (w ∷ xs) (λ i x at. above i x at (omega arith)))
-count_upto {X} p (w ∷ xs) (suc k) within below above =
-    let a : count_by p (w ∷ xs) ≡ cond {A = ℕ} (p w) 1 0 + count_by p xs =
-    sum_by-cons (λ (y : X). cond {A = ℕ} (p y) 1 0) w xs in
-    let b : cond {A = ℕ} (p w) 1 0 ≡ 1 = ap (λ b. cond {A = ℕ} b 1 0) (below 0 w refl (omega arith)) in
-    let c : k ≡ count_by p xs =
-    count_upto p xs k (omega arith) (λ i x at l. below (suc i) x at (omega arith))
+count_upto p (w ∷ xs) (suc k) within below above =
+    let rest = count_upto p xs k (omega arith) (λ i x at l. below (suc i) x at (omega arith))
     (λ i x at le. above (suc i) x at (omega arith)) in
-    omega arith
+    simp sum_by-cons (rw (below 0 w refl (omega arith)) (omega (arith, rest)))
 
 module _ {S : Type 0} (m : StepMachine S) (same : S → S → Bool) (right : S → Finding → Type 0)
     (machine : IsMachine m) (merges : Merges m same) (es : List (Entry S))
@@ -175,9 +144,7 @@ module _ {S : Type 0} (m : StepMachine S) (same : S → S → Bool) (right : S �
   count_to_is n done steps_of =
       let first = count_first (λ (e : Entry S). leb (m.steps e.state) n) es
       (λ i j e f le at_i at_j h.
-      let a : m.steps e.state ≤ m.steps f.state = law.ordered i j e f at_i at_j le in
-      let b : m.steps f.state ≤ n = leb-true (m.steps f.state) n h in
-      le-leb (m.steps e.state) n (omega arith)) in
+      le-leb (m.steps e.state) n (omega (arith, law.ordered i j e f at_i at_j le, leb-true (m.steps f.state) n h))) in
       count_is m same right machine merges es law n (count_by (λ (e : Entry S). leb (m.steps e.state) n) es) done
       (count_by-le-length (λ (e : Entry S). leb (m.steps e.state) n) es)
       (λ i e at l. leb-true (m.steps e.state) n ((first i e at).1 l))

@@ -1,9 +1,9 @@
 -- The places among the entries that are looked for again and again.
-use Rattle.std.proofs.Common.{◌≡◌, ℕ, zero, suc, ◌+◌, ◌<◌, ◌≤◌, inl, inr, Bool, true, false, not, cond, Option}
+use Rattle.std.proofs.Common.{◌≡◌, ◌≢◌, ℕ, zero, suc, ◌+◌, ◌<◌, ◌≤◌, inl, inr, Bool, true, false, not, cond, Option}
 use Rattle.std.proofs.Common.{Some, None, List, [], ◌∷◌, ◌++◌, length, map, refl, sym, ap, ◌∙◌, arith, slice_get}
 use Rattle.std.proofs.Common.{IfNone, IfSome, position, length-append, subst}
 use Rattle.std.proofs.lemmas.Bool.{true≢false, cases_lt, not-false}
-use Rattle.std.proofs.lemmas.Option.{slice_get_within}
+use Rattle.std.proofs.lemmas.Option.{same_Some, slice_get_within}
 use Rattle.tree_machine.proofs.Lists.{get-append_cases, get-append_left, get_at}
 use Rattle.book.specs.declared.entry.Mark.{Mark}
 use Rattle.book.specs.declared.entry.Mark.TheVariants.{Open, Taken, Expanded}
@@ -13,6 +13,10 @@ use Rattle.book.specs.Slots.{IsFirstLeft, AreCursors}
 use Rattle.book.proofs.EntryLemmas.{at-with_mark, length-with_mark}
 use Rattle.book.proofs.Next.{first_passes, none_passes}
 use Rattle.book.proofs.Marks.{expanded_fails, left_passes, open_fails, open_from, open_passes}
+
+-- the first that passes is one of the list
+pub first_within : {X : Type 0} (p : X → Bool) (xs : List X) (i : ℕ) → position p xs ≡ Some i → i < length xs
+first_within p xs i h = let f = first_passes p xs i h in slice_get_within xs i f.0 f.1
 
 -- the first that passes is at most one
 pub first_is : {X : Type 0} (p : X → Bool) (xs : List X) (i : ℕ) (x : X) → slice_get xs i ≡ Some x → p x ≡ true
@@ -65,11 +69,9 @@ fault-with_mark {S} es i k = go (position p es) refl
     go (Some a) h =
         let first = first_passes p es a h in
         let at : (f : Entry S) × At (with_mark es i k) a f =
-        get_at (with_mark es i k) a (let w : a < length es = slice_get_within es a first.0 first.1 in
-        let l : length (with_mark es i k) ≡ length es = length-with_mark es i k in omega arith) in
+        get_at (with_mark es i k) a (rw (length-with_mark es i k) (slice_get_within es a first.0 first.1)) in
         let o = at-with_mark es i k a at.0 at.1 in
-        let same : o.0 ≡ first.0 = (let u : slice_get es a ≡ Some o.0 = o.1 in
-        let v : slice_get es a ≡ Some first.0 = first.1 in cc) in
+        let same = same_Some o.0 first.0 (sym o.1 ∙ first.1) in
         first_is p (with_mark es i k) a at.0 at.1 (ap (λ x. not (is_sound x)) o.2.finding ∙ ap p same ∙ first.2)
         (λ j f there less. let q = at-with_mark es i k j f there in
         ap (λ x. not (is_sound x)) q.2.finding ∙ first.3 j q.0 less q.1)
@@ -109,8 +111,7 @@ module _ {S : Type 0} (es : List (Entry S)) where
     pub open_none : length es ≤ next_open → position (λ (e : Entry S). is_open e.mark) es ≡ None
     open_none le =
         none_is (λ (e : Entry S). is_open e.mark) es (λ k y there.
-        open_fails y.mark
-        (cursors.below k y there (let w : k < length es = slice_get_within es k y there in omega arith)))
+        open_fails y.mark (cursors.below k y there (omega (arith, slice_get_within es k y there))))
 
     pub open_within : (r : Option ℕ) → IfSome r (λ i. (i ≡ next_open) × (next_open < length es))
         → IfNone r (length es ≤ next_open) → r ≡ position (λ (e : Entry S). is_open e.mark) es
@@ -127,8 +128,7 @@ module _ {S : Type 0} (es : List (Entry S)) where
     pub left_none : length es ≤ first_left → position (λ (e : Entry S). not (is_expanded e.mark)) es ≡ None
     left_none le =
         none_is (λ (e : Entry S). not (is_expanded e.mark)) es (λ k y there.
-        expanded_fails y.mark
-        (cursors.left.expanded k y there (let w : k < length es = slice_get_within es k y there in omega arith)))
+        expanded_fails y.mark (cursors.left.expanded k y there (omega (arith, slice_get_within es k y there))))
 
     pub left_within : (r : Option ℕ) → IfSome r (λ i. (i ≡ first_left) × (first_left < length es))
         → IfNone r (length es ≤ first_left) → r ≡ position (λ (e : Entry S). not (is_expanded e.mark)) es
@@ -166,39 +166,30 @@ module _ {S : Type 0} (es : List (Entry S)) where
               let o = at-with_mark es i Taken j d at in
               elim o.3 [
                 | inl n ↦ (λ (q : d.mark ≡ Open). let t : d.mark ≡ Taken = n.1 in cc)
-                | inr n ↦
-                    (λ (q : d.mark ≡ Open). cursors.below j o.0 o.1
-                    (let ne : i ≡ j → ⊥ = n.0 in
-                    elim (cases_lt j i) [ inl l ↦ omega arith | inr ge ↦ absurd (ne (omega arith)) ])
-                    (sym (ap (λ (x : Entry S). x.mark) n.1) ∙ q))
+                | inr n ↦ (λ q. cursors.below j o.0 o.1 (let ne : i ≢ j = n.0 in omega arith) (rw n.1 at q))
               ]);
           above = (λ j d at le.
               let o = at-with_mark es i Taken j d at in
               elim o.3 [
                 | inl n ↦ absurd (let e : i ≡ j = n.0 in omega arith)
-                | inr n ↦ ap (λ (x : Entry S). x.mark) n.1 ∙ cursors.above j o.0 o.1 (omega arith)
+                | inr n ↦ rw n.1 (cursors.above j o.0 o.1 (omega arith))
               ]);
           within = omega arith;
           left = record {
             expanded = (λ j d at less.
                 let o = at-with_mark es i Taken j d at in
-                let done : o.0.mark ≡ Expanded = cursors.left.expanded j o.0 o.1 less in
+                let done = cursors.left.expanded j o.0 o.1 less in
                 elim o.3 [
-                  | inl n ↦ absurd (
-                      let e : i ≡ j = n.0 in
-                      let same : o.0 ≡ f.0 = (let u : slice_get es j ≡ Some o.0 = o.1 in
-                      let v : slice_get es i ≡ Some f.0 = f.1 in cc) in cc)
-                  | inr n ↦ ap (λ (x : Entry S). x.mark) n.1 ∙ done
+                  | inl n ↦ absurd (let same = same_Some o.0 f.0 (sym o.1 ∙ sym (ap (slice_get es) n.0) ∙ f.1) in cc)
+                  | inr n ↦ rw n.1 done
                 ]);
             stops = (λ d at.
                 let o = at-with_mark es i Taken first_left d at in
                 elim o.3 [
                   | inl n ↦ (λ (q : d.mark ≡ Expanded). let t : d.mark ≡ Taken = n.1 in cc)
-                  | inr n ↦
-                      (λ (q : d.mark ≡ Expanded). cursors.left.stops o.0 o.1
-                      (sym (ap (λ (x : Entry S). x.mark) n.1) ∙ q))
+                  | inr n ↦ (λ q. cursors.left.stops o.0 o.1 (rw n.1 at q))
                 ]);
-            within = (let u : first_left ≤ length es = cursors.left.within in omega arith);
+            within = omega (arith, cursors.left.within);
           };
           first_fault = cursors.first_fault ∙ sym (fault-with_mark es i Taken);
         }
@@ -210,7 +201,7 @@ module _ {S : Type 0} (es : List (Entry S)) where
         let o = at-with_mark es i Expanded j d at in
         elim o.3 [
           | inl n ↦ n.1
-          | inr n ↦ ap (λ (x : Entry S). x.mark) n.1 ∙ cursors.left.expanded j o.0 o.1 less
+          | inr n ↦ rw n.1 (cursors.left.expanded j o.0 o.1 less)
         ]
 
     pub cursors_expanded : (i : ℕ) → IsTaken es i → (left' : ℕ) → IsFirstLeft (with_mark es i Expanded) left'
@@ -222,21 +213,17 @@ module _ {S : Type 0} (es : List (Entry S)) where
               let o = at-with_mark es i Expanded j d at in
               elim o.3 [
                 | inl n ↦ (λ (q : d.mark ≡ Open). let t : d.mark ≡ Expanded = n.1 in cc)
-                | inr n ↦
-                    (λ (q : d.mark ≡ Open). cursors.below j o.0 o.1 less (sym (ap (λ (x : Entry S). x.mark) n.1) ∙ q))
+                | inr n ↦ (λ q. cursors.below j o.0 o.1 less (rw n.1 at q))
               ]);
           above = (λ j d at le.
               let o = at-with_mark es i Expanded j d at in
               let was : o.0.mark ≡ Open = cursors.above j o.0 o.1 le in
               elim o.3 [
-                | inl n ↦ absurd (
-                    let e : i ≡ j = n.0 in
-                    let t : taken.0.mark ≡ Taken = taken.2 in
-                    let same : o.0 ≡ taken.0 = (let u : slice_get es j ≡ Some o.0 = o.1 in
-                    let v : slice_get es i ≡ Some taken.0 = taken.1 in cc) in cc)
-                | inr n ↦ ap (λ (x : Entry S). x.mark) n.1 ∙ was
+                | inl n ↦ absurd (let t = taken.2 in
+                    let same = same_Some o.0 taken.0 (sym o.1 ∙ (rw n.0 at taken.1)) in cc)
+                | inr n ↦ rw n.1 was
               ]);
-          within = (let u : next_open ≤ length es = cursors.within in omega arith);
+          within = omega (arith, cursors.within);
           left = is_left;
           first_fault = cursors.first_fault ∙ sym (fault-with_mark es i Expanded);
         }
@@ -251,23 +238,23 @@ module _ {S : Type 0} (es : List (Entry S)) where
         record {
           below = (λ j d at less. elim (get-append_cases es (map (opened i) xs) j d at) [
             | inl o ↦ cursors.below j d o less
-            | inr r ↦ absurd (let w : next_open ≤ length es = cursors.within in omega (arith, r.1))
+            | inr r ↦ absurd (omega (arith, cursors.within, r.1))
           ]);
           above = (λ j d at le. elim (get-append_cases es (map (opened i) xs) j d at) [
             | inl o ↦ cursors.above j d o le
             | inr r ↦ opened_open i xs r.0 d r.2
           ]);
-          within = (let w : next_open ≤ length es = cursors.within in omega arith);
+          within = omega (arith, cursors.within);
           left = record {
             expanded = (λ j d at less. elim (get-append_cases es (map (opened i) xs) j d at) [
               | inl o ↦ cursors.left.expanded j d o less
-              | inr r ↦ absurd (let w : first_left ≤ length es = cursors.left.within in omega (arith, r.1))
+              | inr r ↦ absurd (omega (arith, cursors.left.within, r.1))
             ]);
             stops = (λ d at. elim (get-append_cases es (map (opened i) xs) first_left d at) [
               | inl o ↦ cursors.left.stops d o
               | inr r ↦ (λ (q : d.mark ≡ Expanded). let t : d.mark ≡ Open = opened_open i xs r.0 d r.2 in cc)
             ]);
-            within = (let w : first_left ≤ length es = cursors.left.within in omega arith);
+            within = omega (arith, cursors.left.within);
           };
           first_fault = is_fault;
         }

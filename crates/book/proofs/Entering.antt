@@ -1,10 +1,10 @@
 -- An expansion is entered.
-use Rattle.std.proofs.Common.{◌≡◌, ℕ, zero, suc, ◌+◌, ◌-◌, ◌^◌, ◌<◌, ◌≤◌, Bool, Some, List, [], ◌∷◌, ◌++◌, length, map}
-use Rattle.std.proofs.Common.{refl, sym, ap, ◌∙◌, arith, slice_get}
+use Rattle.std.proofs.Common.{◌≡◌, ℕ, zero, suc, ◌+◌, ◌-◌, ◌^◌, ◌<◌, ◌≤◌, Bool, List, [], ◌∷◌, ◌++◌, length, map}
+use Rattle.std.proofs.Common.{refl, sym, ap, ◌∙◌, arith}
 use Rattle.std.proofs.Common.{length-append}
 use Rattle.std.proofs.lemmas.Bool.{cond_both}
 use Rattle.std.proofs.Math.ListN.{length-map}
-use Rattle.std.proofs.lemmas.Option.{slice_get_within}
+use Rattle.std.proofs.lemmas.Option.{same_Some, slice_get_within}
 use Rattle.sched_program.specs.Program.{Program}
 use Rattle.tree_machine.proofs.Lists.{get-append_left}
 use Rattle.replay.specs.declared.finding.Finding.{Finding}
@@ -23,10 +23,7 @@ pub own_from : {X S : Type 0} (book : Contents X S) (i : ℕ) (e : Entry S) (x :
 own_from book i e x p s r at state same_machine same_program same_state = record {
   machine = same_machine;
   program = same_program;
-  source =
-      (λ d there. let q : d ≡ e = (let u : slice_get book.entries i ≡ Some e = at in
-      let v : slice_get book.entries i ≡ Some d = there in cc) in
-      same_state ∙ state ∙ sym (ap (λ (v : Entry _). v.state) q));
+  source = λ d there. rw (← same_Some e d (sym at ∙ there)) (same_state ∙ state);
 }
 
 length-unknown : {S : Type 0} (same : S → S → Bool) (known : List S) (xs : List (Successor S))
@@ -35,9 +32,8 @@ length-unknown same known [] = omega arith
 length-unknown {S} same known (x ∷ xs) =
     cond_both (knows same known x.state) (unknown same known xs) (x ∷ unknown same (known ++ x.state ∷ []) xs)
     (λ (ys : List (Successor S)). length ys ≤ suc (length xs))
-    (λ _. let h : length (unknown same known xs) ≤ length xs = length-unknown same known xs in omega arith)
-    (λ _. let h : length (unknown same (known ++ x.state ∷ []) xs)
-    ≤ length xs = length-unknown same (known ++ x.state ∷ []) xs in omega arith)
+    (λ _. omega (arith, length-unknown same known xs))
+    (λ _. omega (arith, length-unknown same (known ++ x.state ∷ []) xs))
 
 with_mark-append : {S : Type 0} (es fs : List (Entry S)) (i : ℕ) (k : Mark) → i < length es
     → with_mark (es ++ fs) i k ≡ with_mark es i k ++ fs
@@ -52,31 +48,19 @@ module _ {X S : Type 0} (m : StepMachine S) (same : S → S → Bool) (right : S
     (xs : List (Successor S)) (expansion : IsExpansion m right e.state xs)
     (appended : List (Entry S)) (is : appended ≡ b.entries ++ map (opened i) (unknown same (states b.entries) xs)) where
   pub length_appended : length appended ≡ length b.entries + length (unknown same (states b.entries) xs)
-  length_appended =
-      let l : length (b.entries ++ map (opened i) (unknown same (states b.entries) xs))
-      ≡ length b.entries + length (map (opened i) (unknown same (states b.entries) xs)) =
-      length-append b.entries (map (opened i) (unknown same (states b.entries) xs)) in
-      let m : length (map (opened i) (unknown same (states b.entries) xs))
-      ≡ length (unknown same (states b.entries) xs) = length-map (unknown same (states b.entries) xs) (opened i) in
-      let q : length appended ≡ length (b.entries ++ map (opened i) (unknown same (states b.entries) xs)) =
-      ap length is in
-      omega arith
+  length_appended = simp (is, length-append, length-map) refl
 
   -- so many are new
   pub entered_is : (entered was now : ℕ) → entered ≡ now - was → was ≡ length b.entries
       → now ≡ length appended
       → entered ≡ length (unknown same (states b.entries) xs)
-  entered_is entered was now p q r =
-      let l : length appended ≡ length b.entries + length (unknown same (states b.entries) xs) = length_appended in
-      omega arith
+  entered_is entered was now p q r = omega (arith, length_appended)
 
   pub entered_within : (entered was now steps : ℕ) → entered ≡ now - was → was ≡ length b.entries
       → now ≡ length appended
       → steps ≡ length xs → entered ≤ steps
   entered_within entered was now steps p q r u =
-      let e : entered ≡ length (unknown same (states b.entries) xs) = entered_is entered was now p q r in
-      let c : length (unknown same (states b.entries) xs) ≤ length xs = length-unknown same (states b.entries) xs in
-      omega arith
+      omega (arith, entered_is entered was now p q r, length-unknown same (states b.entries) xs)
 
   -- the entry is taken still
   pub still_taken : IsTaken appended i
@@ -108,8 +92,7 @@ module _ {X S : Type 0} (m : StepMachine S) (same : S → S → Bool) (right : S
   lawful_entered new entered met marked count each room =
       rw (entered_entries new marked)
       (entered_book m same right machine merges b book i e at taken xs expansion entered met (sym count) each
-      (let l : length appended ≡ length b.entries + length (unknown same (states b.entries) xs) = length_appended in
-      omega arith))
+      (omega (arith, length_appended)))
 
   pub small_met : (met : ℕ) → met ≤ length xs → b.met + met < 2 ^ 64
   small_met met le = met_fits m same right machine merges b book i e at taken xs expansion met le

@@ -1,8 +1,8 @@
 -- The labels of a book, entry by entry.
-use Rattle.std.proofs.Common.{◌≡◌, ℕ, ◌<◌, ◌≤◌, Option, Some, List, ap, arith, refl, sym, slice_get, subst, ◌∙◌}
+use Rattle.std.proofs.Common.{◌≡◌, ℕ, Option, Some, List, ap, arith, refl, sym, slice_get, ◌∙◌}
+use Rattle.std.proofs.lemmas.Option.{same_Some}
 use Rattle.sched_program.specs.Program.{Program}
 use Rattle.tree_machine.specs.Rules.{Rules}
-use Rattle.tree_machine.specs.Step.{Fits}
 use Rattle.tree_machine.proofs.Lists.{map-get}
 use Rattle.tree_machine.specs.FormCode.{state_code}
 use Rattle.tree_machine.specs.declared.state.State.{State}
@@ -12,7 +12,6 @@ use Rattle.replay.specs.declared.finding.Finding.{Finding}
 use Rattle.book.specs.Books.{IsBook}
 use Rattle.book.specs.ByLabel.{IsTakenOf}
 use Rattle.book.specs.Entries.{Contents, Entry, At}
-use Rattle.replay.specs.Findings.{IsFindingOf}
 use Rattle.book.specs.Labels.{AreKnownBy, Kept, label_by}
 use Rattle.book.proofs.InBook.{state_bounded}
 
@@ -21,10 +20,13 @@ pub label_there : {S : Type 0} (label_of : S → List ℕ) (kept : Kept S) → A
     → (i : ℕ) (e : Entry S) → At kept.entries i e → (label : List ℕ) → slice_get kept.labels i ≡ Some label
     → label ≡ label_of e.state
 label_there {S} label_of kept known i e at label there =
-    let here : slice_get kept.labels i ≡ Some (label_of e.state) =
-    ap (λ (ls : List (List ℕ)). slice_get ls i) known
-    ∙ map-get (λ (x : Entry S). label_of x.state) kept.entries i e at in
-    cc
+    same_Some label (label_of e.state)
+    (sym there ∙ (rw known (map-get (λ (x : Entry S). label_of x.state) kept.entries i e at)))
+
+-- an entry has one finding
+pub finding_there : {S : Type 0} (es : List (Entry S)) (i : ℕ) (d e : Entry S) → At es i d → At es i e
+    → d.finding ≡ e.finding
+finding_there {S} es i d e at there = ap (λ (x : Entry S). x.finding) (same_Some d e (sym at ∙ there))
 
 -- with exact merging it is the bytes of the state
 pub exact_label : {Machine Memory Place Form : Type 0} (own_code : Memory → List (Option Place) → List ℕ)
@@ -50,18 +52,11 @@ pub taken_of : {Machine Memory Place Form : Type 0} (rules : Machine → Rules M
       key = record { id = i; machine = b.machine; program = program; merge = b.merge; label = label };
       finding = finding;
     })
-taken_of {Machine} {Memory} {Place} {Form} rules own_code form_code form_of {b} book i e at program own label is
-    finding found =
+taken_of rules own_code form_code form_of book i e at program own label is finding found =
     record {
       state = e.state;
-      fits = subst (λ (p : Program). Fits (rules b.machine) p e.state) (sym own) (book.law.law.fit i e at);
-      bounded =
-          (let less : e.state.steps < b.limit = state_bounded book i e.state (e, at, refl) in
-          let most : b.limit ≤ 2000000 = book.law.limit in
-          omega arith);
+      fits = rw own (book.law.law.fit i e at);
+      bounded = omega (arith, state_bounded book i e.state (e, at, refl), book.law.limit);
       label = sym is;
-      finding =
-          subst (λ (p : Program). IsFindingOf (rules b.machine) p e.state finding) (sym own)
-          (subst (λ (f : Finding). IsFindingOf (rules b.machine) b.program e.state f) (sym found)
-          (book.law.law.findings i e at));
+      finding = rw (own, found) (book.law.law.findings i e at);
     }

@@ -93,21 +93,7 @@ pub count_marks : {S : Type 0} (es : List (Entry S))
     → length es ≡ count_by (λ e. is_open e.mark) es + count_by (λ e. is_taken e.mark) es
     + count_by (λ e. is_expanded e.mark) es
 count_marks [] = refl
-count_marks {S} (e ∷ es) =
-    let a : count_by (λ (e : Entry S). is_open e.mark) (e ∷ es)
-    ≡ cond (is_open e.mark) 1 0 + count_by (λ (e : Entry S). is_open e.mark) es =
-    sum_by-cons (λ (e : Entry S). cond (is_open e.mark) 1 0) e es in
-    let b : count_by (λ (e : Entry S). is_taken e.mark) (e ∷ es)
-    ≡ cond (is_taken e.mark) 1 0 + count_by (λ (e : Entry S). is_taken e.mark) es =
-    sum_by-cons (λ (e : Entry S). cond (is_taken e.mark) 1 0) e es in
-    let c : count_by (λ (e : Entry S). is_expanded e.mark) (e ∷ es)
-    ≡ cond (is_expanded e.mark) 1 0 + count_by (λ (e : Entry S). is_expanded e.mark) es =
-    sum_by-cons (λ (e : Entry S). cond (is_expanded e.mark) 1 0) e es in
-    let rest : length es ≡ count_by (λ (e : Entry S). is_open e.mark) es + count_by (λ (e : Entry S). is_taken e.mark)
-    es + count_by (λ (e : Entry S). is_expanded e.mark) es = count_marks es in
-    let one : 1 ≡ cond {A = ℕ} (is_open e.mark) 1 0 + cond {A = ℕ} (is_taken e.mark) 1 0
-    + cond {A = ℕ} (is_expanded e.mark) 1 0 = one_mark e.mark in
-    omega arith
+count_marks (e ∷ es) = simp sum_by-cons (omega (arith, count_marks es, one_mark e.mark))
   where
     one_mark : (k : Mark) → 1 ≡ cond {A = ℕ} (is_open k) 1 0 + cond {A = ℕ} (is_taken k) 1 0
         + cond {A = ℕ} (is_expanded k) 1 0

@@ -1,20 +1,19 @@
 -- How a book grows by one expansion.
 use Rattle.std.proofs.Common.{◌≡◌, ◌≢◌, ℕ, zero, suc, ◌+◌, ◌<◌, ◌≤◌, inl, inr, Bool, false, not, cond, Option, Some}
-use Rattle.std.proofs.Common.{None, List, [], ◌∷◌, length, map, refl, sym, ap, ◌∙◌, arith, slice_get, position, subst}
+use Rattle.std.proofs.Common.{None, List, [], ◌∷◌, length, map, refl, sym, ap, ◌∙◌, arith, slice_get, position}
 use Rattle.std.proofs.Common.{count_by}
 use Rattle.std.proofs.lemmas.Bool.{cases_lt}
 use Rattle.std.proofs.lemmas.List.Sums.{sum_by-cons, sum_by-append}
-use Rattle.std.proofs.lemmas.Option.{slice_get_within}
+use Rattle.std.proofs.lemmas.Option.{same_Some, slice_get_within}
 use Rattle.replay.specs.declared.finding.Finding.{Finding}
 use Rattle.book.specs.declared.entry.Mark.{Mark}
-use Rattle.book.specs.declared.entry.Mark.TheVariants.{Open, Taken, Expanded}
+use Rattle.book.specs.declared.entry.Mark.TheVariants.{Taken, Expanded}
 use Rattle.replay.specs.Schedule.{AreOneBy, StepMachine, IsMachine, Merges}
 use Rattle.book.specs.Entries.{Entry, Successor, Takes, At, IsNext, with_mark, opened, states}
 use Rattle.book.specs.Unknown.{with_successors, unknown}
 use Rattle.book.specs.Entries.{is_expanded}
 use Rattle.book.specs.Law.{IsLawful, IsExpansion}
 use Rattle.book.specs.Layers.{IsExpandedTo, IsLeftTo, NoneTaken, GrowsFrom, IsThrough}
-use Rattle.replay.specs.Findings.{is_sound}
 use Rattle.book.proofs.EntryLemmas.{at-with_mark, with_mark-at}
 use Rattle.book.proofs.Next.{first_passes, none_passes}
 use Rattle.book.proofs.Kept.{entered_grows, entered_rests}
@@ -30,27 +29,21 @@ module _ {S : Type 0} (m : StepMachine S) (same : S → S → Bool) (right : S �
       elim (cases_lt 0 i) [
         | inl pos ↦ (
             let step = law.origins i e at pos in
-            let up : m.steps e.state ≡ m.steps step.parent.state + 1 =
-            machine.one_more step.parent.state e.state step.origin.thread step.step in
-            let earlier : step.origin.parent < i = step.earlier in
-            let bounded : m.steps step.parent.state ≤ step.origin.parent =
-            bounded_by n step.origin.parent step.parent step.entered (omega arith) in
-            omega arith)
+            omega (
+              arith,
+              step.earlier,
+              bounded_by n step.origin.parent step.parent step.entered,
+              machine.one_more step.parent.state e.state step.origin.thread step.step,
+            ))
         | inr none ↦ (
             let zero_at : i ≡ 0 = omega arith in
-            let first : slice_get es 0 ≡ Some law.start.0 = law.start.1 in
-            let e_is : slice_get es i ≡ Some e = at in
-            let q : law.start.0 ≡ e = cc in
-            let steps : m.steps e.state ≡ m.steps m.start =
-            ap (λ (x : Entry S). m.steps x.state) (sym q) ∙ ap m.steps law.start.2 in
-            let z : m.steps m.start ≡ 0 = machine.from_zero in
+            let q = same_Some law.start.0 e (sym law.start.1 ∙ (rw zero_at at at)) in
+            let z : m.steps e.state ≡ 0 = rw (← q, law.start.2) machine.from_zero in
             omega arith)
       ]
 
   pub steps_bounded : (i n : ℕ) (e : Entry S) → At es i e → length es ≤ n → m.steps e.state < n
-  steps_bounded i n e at within =
-      let f : m.steps e.state ≤ i = bounded_by (i + 1) i e at (omega arith) in
-      let w : i < length es = slice_get_within es i e at in omega arith
+  steps_bounded i n e at within = omega (arith, bounded_by (i + 1) i e at, slice_get_within es i e at)
 
   pub all_expanded : (n : ℕ) → position (λ (r : Entry S). not (is_expanded r.mark)) es ≡ None
       → IsExpandedTo m.steps es n
@@ -62,8 +55,7 @@ module _ {S : Type 0} (m : StepMachine S) (same : S → S → Bool) (right : S �
     first_is_left : d.mark ≢ Expanded
     first_is_left =
         let f = first_passes (λ (r : Entry S). not (is_expanded r.mark)) es a first in
-        let q : f.0 ≡ d = (let u : slice_get es a ≡ Some f.0 = f.1 in let v : slice_get es a ≡ Some d = at_a in cc) in
-        λ (x : d.mark ≡ Expanded). not_expanded_from f.0.mark f.2 (ap (λ (r : Entry S). r.mark) q ∙ x)
+        rw (← same_Some f.0 d (sym f.1 ∙ at_a)) (not_expanded_from f.0.mark f.2)
 
     pub is_left : (n : ℕ) → m.steps d.state ≤ n → IsLeftTo m.steps es n
     is_left n bounded = (a, d, at_a, first_is_left, bounded)
@@ -73,7 +65,7 @@ module _ {S : Type 0} (m : StepMachine S) (same : S → S → Bool) (right : S �
         elim (cases_lt i a) [
           | inl l ↦ expanded_from e.mark
               ((first_passes (λ (r : Entry S). not (is_expanded r.mark)) es a first).3 i e l at)
-          | inr le ↦ absurd (let q : m.steps d.state ≤ m.steps e.state = law.ordered a i d e at_a at le in omega arith)
+          | inr le ↦ absurd (omega (arith, law.ordered a i d e at_a at le))
         ]
 
   -- where none is taken and some is left, one is next
@@ -87,23 +79,27 @@ module _ {S : Type 0} (m : StepMachine S) (same : S → S → Bool) (right : S �
           (none_passes (λ (r : Entry S). not (is_expanded r.mark)) es h left.0 left.1 left.2))
       go (Some a) h =
           let f = first_passes (λ (r : Entry S). not (is_expanded r.mark)) es a h in
-          let is_open_one : f.0.mark ≡ Open =
-          open_between f.0.mark (not_expanded_from f.0.mark f.2) (none_taken a f.0 f.1) in
           no_next a f.0 (record {
             entry = f.1;
-            is_open = is_open_one;
+            is_open = open_between f.0.mark (not_expanded_from f.0.mark f.2) (none_taken a f.0 f.1);
             fewest = (λ j g at x. elim (cases_lt j a) [
               | inl l ↦ absurd (x (expanded_from g.mark (f.3 j g l at)))
               | inr le ↦ law.ordered a j f.0 g f.1 at le
             ]);
             lowest = (λ j g at o _. elim (cases_lt j a) [
-              | inl l ↦ absurd (let x : g.mark ≡ Expanded = expanded_from g.mark (f.3 j g l at) in cc)
+              | inl l ↦ absurd (let x = expanded_from g.mark (f.3 j g l at) in cc)
               | inr le ↦ le
             ]);
           })
 
 -- ---- one is taken, and then its steps are entered
 module _ {S : Type 0} (m : StepMachine S) where
+  -- the next entry is not expanded
+  open_there : (es : List (Entry S)) (i : ℕ) (e : Entry S) → IsNext m.steps es i e → (j : ℕ) (d : Entry S) → At es j d
+      → i ≡ j → d.mark ≡ Expanded → ⊥
+  open_there es i e next j d at is done =
+      let q = same_Some d e (sym at ∙ (rw is at next.entry)) in let z = next.is_open in cc
+
   pub taken_grows : (es : List (Entry S)) (i : ℕ) (e : Entry S) → IsNext m.steps es i e
       → GrowsFrom m.steps es (with_mark es i Taken)
   taken_grows es i e next j f at =
@@ -113,12 +109,9 @@ module _ {S : Type 0} (m : StepMachine S) where
         o.1,
         o.2.state,
         o.2.finding,
-        (λ (x : o.0.mark ≡ Expanded). elim o.3 [
-          | inl l ↦ absurd
-              (let q : o.0 ≡ e = (let u : slice_get es i ≡ Some e = next.entry in
-              let v : slice_get es j ≡ Some o.0 = o.1 in let w : i ≡ j = l.0 in cc) in
-              let z : e.mark ≡ Open = next.is_open in cc)
-          | inr r ↦ ap (λ (q : Entry S). q.mark) r.1 ∙ x
+        (λ x. elim o.3 [
+          | inl l ↦ absurd (open_there es i e next j o.0 o.1 l.0 x)
+          | inr r ↦ rw r.1 x
         ]),
       )
 
@@ -126,58 +119,29 @@ module _ {S : Type 0} (m : StepMachine S) where
       → f.mark ≡ Taken → i ≡ j
   taken_alone es i none j f at taken =
       let o = at-with_mark es i Taken j f at in
-      elim o.3 [ inl l ↦ l.0 | inr r ↦ absurd (none j o.0 o.1 (sym (ap (λ (q : Entry S). q.mark) r.1) ∙ taken)) ]
+      elim o.3 [ inl l ↦ l.0 | inr r ↦ absurd (none j o.0 o.1 (rw r.1 at taken)) ]
 
   pub taken_count : (es : List (Entry S)) (i : ℕ) (k : Mark) (e : Entry S) → At es i e → is_expanded e.mark ≡ false
       → count_by (λ (r : Entry S). is_expanded r.mark) (with_mark es i k)
       ≡ count_by (λ (r : Entry S). is_expanded r.mark) es + cond (is_expanded k) 1 0
-  taken_count [] i k e at closed = absurd (let q : None ≡ Some e = at in cc)
+  taken_count [] i k e at closed = absurd (cc)
   taken_count (d ∷ es) zero k e at closed =
-      let q : d ≡ e = cc in
-      let n : cond {A = ℕ} (is_expanded d.mark) 1 0 ≡ 0 =
-      ap (λ (x : Entry S). cond (is_expanded x.mark) 1 0) q ∙ ap (λ b. cond b 1 0) closed in
-      let a : count_by (λ (r : Entry S). is_expanded r.mark) (record d { mark = k } ∷ es)
-      ≡ cond (is_expanded k) 1 0 + count_by (λ (r : Entry S). is_expanded r.mark) es =
-      sum_by-cons (λ (r : Entry S). cond (is_expanded r.mark) 1 0) (record d { mark = k }) es in
-      let b : count_by (λ (r : Entry S). is_expanded r.mark) (d ∷ es)
-      ≡ cond (is_expanded d.mark) 1 0 + count_by (λ (r : Entry S). is_expanded r.mark) es =
-      sum_by-cons (λ (r : Entry S). cond (is_expanded r.mark) 1 0) d es in
-      omega arith
-  taken_count (d ∷ es) (suc i) k e at closed =
-      let r : count_by (λ (r : Entry S). is_expanded r.mark) (with_mark es i k)
-      ≡ count_by (λ (r : Entry S). is_expanded r.mark) es + cond (is_expanded k) 1 0 =
-      taken_count es i k e at closed in
-      let a : count_by (λ (r : Entry S). is_expanded r.mark) (d ∷ with_mark es i k)
-      ≡ cond (is_expanded d.mark) 1 0 + count_by (λ (r : Entry S). is_expanded r.mark) (with_mark es i k) =
-      sum_by-cons (λ (r : Entry S). cond (is_expanded r.mark) 1 0) d (with_mark es i k) in
-      let b : count_by (λ (r : Entry S). is_expanded r.mark) (d ∷ es)
-      ≡ cond (is_expanded d.mark) 1 0 + count_by (λ (r : Entry S). is_expanded r.mark) es =
-      sum_by-cons (λ (r : Entry S). cond (is_expanded r.mark) 1 0) d es in
-      omega arith
+      let shut : is_expanded d.mark ≡ false = (let q : d ≡ e = cc in rw q closed) in
+      simp (sum_by-cons, shut) (omega arith)
+  taken_count (d ∷ es) (suc i) k e at closed = simp sum_by-cons (omega (arith, taken_count es i k e at closed))
 
   opened_count : (i : ℕ) (us : List (Successor S))
       → count_by (λ (r : Entry S). is_expanded r.mark) (map (opened i) us) ≡ 0
   opened_count i [] = refl
-  opened_count i (u ∷ us) =
-      sum_by-cons (λ (r : Entry S). cond (is_expanded r.mark) 1 0) (opened i u) (map (opened i) us)
-      ∙ (let r : count_by (λ (r : Entry S). is_expanded r.mark) (map (opened i) us) ≡ 0 = opened_count i us in
-      omega arith)
+  opened_count i (u ∷ us) = simp sum_by-cons (omega (arith, opened_count i us))
 
-  pub entered_count : (same : S → S → Bool) (es : List (Entry S)) (i : ℕ) (e : Entry S) (xs : List (Successor S))
+  entered_count : (same : S → S → Bool) (es : List (Entry S)) (i : ℕ) (e : Entry S) (xs : List (Successor S))
       → At es i e → e.mark ≡ Taken
       → count_by (λ (r : Entry S). is_expanded r.mark) (with_successors same es i xs)
       ≡ count_by (λ (r : Entry S). is_expanded r.mark) es + 1
   entered_count same es i e xs at taken =
-      let a : count_by (λ (r : Entry S). is_expanded r.mark) (with_successors same es i xs)
-      ≡ count_by (λ (r : Entry S). is_expanded r.mark) (with_mark es i Expanded)
-      + count_by (λ (r : Entry S). is_expanded r.mark) (map (opened i) (unknown same (states es) xs)) =
-      sum_by-append (λ (r : Entry S). cond (is_expanded r.mark) 1 0) (with_mark es i Expanded)
-      (map (opened i) (unknown same (states es) xs)) in
-      let b : count_by (λ (r : Entry S). is_expanded r.mark) (with_mark es i Expanded)
-      ≡ count_by (λ (r : Entry S). is_expanded r.mark) es + 1 = taken_count es i Expanded e at (rw taken refl) in
-      let z : count_by (λ (r : Entry S). is_expanded r.mark) (map (opened i) (unknown same (states es) xs)) ≡ 0 =
-      opened_count i (unknown same (states es) xs) in
-      omega arith
+      simp sum_by-append
+      (omega (arith, taken_count es i Expanded e at (rw taken refl), opened_count i (unknown same (states es) xs)))
 
   pub grows_joined : (a b c : List (Entry S)) (k : ℕ) (e : Entry S) → GrowsFrom m.steps a b → GrowsFrom m.steps b c
       → ((j : ℕ) (f : Entry S) → At b j f → f.mark ≢ Expanded → (i : ℕ) × (d : Entry S) × At a i d × (d.mark ≢ Expanded)
@@ -197,16 +161,12 @@ module _ {S : Type 0} (m : StepMachine S) where
       → IsThrough m.steps new n
   through_grows n old new through grows = record {
     done = (λ j f at less. elim (grows j f at) [
-      | inl o ↦ o.4
-          (through.done j o.0 o.1 (let q : m.steps f.state ≡ m.steps o.0.state = ap m.steps o.2 in omega arith))
-      | inr o ↦ absurd
-          (o.3 (through.done o.0 o.1 o.2 (let q : m.steps f.state ≡ m.steps o.1.state + 1 = o.4 in omega arith)))
+      | inl o ↦ o.4 (through.done j o.0 o.1 (rw (← o.2) less))
+      | inr o ↦ absurd (o.3 (through.done o.0 o.1 o.2 (omega (arith, o.4))))
     ]);
     sound = (λ j f at bounded. elim (grows j f at) [
-      | inl o ↦ ap is_sound o.3 ∙ through.sound j o.0 o.1
-          (let q : m.steps f.state ≡ m.steps o.0.state = ap m.steps o.2 in omega arith)
-      | inr o ↦ absurd
-          (o.3 (through.done o.0 o.1 o.2 (let q : m.steps f.state ≡ m.steps o.1.state + 1 = o.4 in omega arith)))
+      | inl o ↦ rw o.3 (through.sound j o.0 o.1 (rw (← o.2) bounded))
+      | inr o ↦ absurd (o.3 (through.done o.0 o.1 o.2 (omega (arith, o.4))))
     ]);
   }
 
@@ -218,13 +178,7 @@ module _ {S : Type 0} (m : StepMachine S) where
         j,
         o.0,
         o.1,
-        (λ (x : o.0.mark ≡ Expanded). elim o.3 [
-          | inl l ↦
-              (let q : o.0 ≡ e = (let u : slice_get es i ≡ Some e = next.entry in
-              let v : slice_get es j ≡ Some o.0 = o.1 in let w : i ≡ j = l.0 in cc) in
-              let z : e.mark ≡ Open = next.is_open in cc)
-          | inr r ↦ left (ap (λ (q : Entry S). q.mark) r.1 ∙ x)
-        ]),
+        (λ x. elim o.3 [ inl l ↦ open_there es i e next j o.0 o.1 l.0 x | inr r ↦ left (rw r.1 x) ]),
         ap m.steps (sym o.2.state),
       )
 
@@ -241,33 +195,17 @@ module _ {S : Type 0} (m : StepMachine S) (same : S → S → Bool) (right : S �
       → At b i d → d.mark ≡ Taken → IsExpansion m right d.state xs → c ≡ with_successors same b i xs → NoneTaken a
       → IsAdvance m.steps a c
   advances a b c i s d xs takes law at taken expansion is none =
-      let first : GrowsFrom m.steps a b =
-      subst (λ (q : List (Entry S)). GrowsFrom m.steps a q) (sym takes.after)
-      (taken_grows m a i takes.entry takes.next) in
       let back : (j : ℕ) (f : Entry S) → At b j f → f.mark ≢ Expanded → (k : ℕ) × (e : Entry S) × At a k e
       × (e.mark ≢ Expanded) × (m.steps e.state ≡ m.steps f.state) =
-      subst (λ (q : List (Entry S)). (j : ℕ) (f : Entry S) → At q j f → f.mark ≢ Expanded → (k : ℕ) × (e : Entry S)
-      × At a k e × (e.mark ≢ Expanded) × (m.steps e.state ≡ m.steps f.state))
-      (sym takes.after) (taken_back m a i takes.entry takes.next) in
-      let alone : (j : ℕ) (f : Entry S) → At b j f → f.mark ≡ Taken → i ≡ j =
-      subst (λ (q : List (Entry S)). (j : ℕ) (f : Entry S) → At q j f → f.mark ≡ Taken → i ≡ j) (sym takes.after)
-      (taken_alone m a i none) in
-      let counted : count_by (λ (r : Entry S). is_expanded r.mark) b
-      ≡ count_by (λ (r : Entry S). is_expanded r.mark) a =
-      ap (count_by (λ (r : Entry S). is_expanded r.mark)) takes.after
-      ∙ (let q : count_by (λ (r : Entry S). is_expanded r.mark) (with_mark a i Taken)
-      ≡ count_by (λ (r : Entry S). is_expanded r.mark) a + 0 =
-      taken_count m a i Taken takes.entry takes.next.entry (ap is_expanded takes.next.is_open) in omega arith) in
-      record {
-        grows = grows_joined m a b c i d first
-            (subst (λ (q : List (Entry S)). GrowsFrom m.steps b q) (sym is)
-            (entered_grows m same right machine merges b law i d at taken xs expansion)) back;
-        none_taken =
-            subst (λ (q : List (Entry S)). NoneTaken q) (sym is)
-            (entered_rests m same right machine merges b law i d at taken xs expansion alone);
-        more = ap (count_by (λ (r : Entry S). is_expanded r.mark)) is ∙ entered_count m same b i d xs at taken
-            ∙ ap (λ n. n + 1) counted;
-      }
+      rw takes.after (taken_back m a i takes.entry takes.next) in
+      let alone : (j : ℕ) (f : Entry S) → At b j f → f.mark ≡ Taken → i ≡ j = rw takes.after (taken_alone m a i none) in
+      let counted = taken_count m a i Taken takes.entry takes.next.entry (ap is_expanded takes.next.is_open) in
+      rw is (record {
+        grows = grows_joined m a b _ i d (rw takes.after (taken_grows m a i takes.entry takes.next))
+            (entered_grows m same right machine merges b law i d at taken xs expansion) back;
+        none_taken = entered_rests m same right machine merges b law i d at taken xs expansion alone;
+        more = entered_count m same b i d xs at taken ∙ (rw takes.after (omega (arith, counted)));
+      })
 
 -- what was taken is a taken entry
 pub taken_is : {S : Type 0} (steps : S → ℕ) (a b : List (Entry S)) (i : ℕ) (s : S) → Takes steps a b i s

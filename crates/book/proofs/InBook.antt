@@ -1,7 +1,7 @@
 -- What follows for the entries of a book. Its machine, which states count as one, and which findings are right are the
 -- book's own.
 use Rattle.std.proofs.Common.{◌≡◌, ℕ, ◌-◌, ◌<◌, ◌≤◌, ◌++◌, ◌∷◌, [], Bool, not, Option, Some, None, List, length}
-use Rattle.std.proofs.Common.{map, reverse, sym, ap, ◌∙◌, arith, slice_get, position, subst}
+use Rattle.std.proofs.Common.{map, refl, reverse, sym, ap, ◌∙◌, arith, position, subst}
 use Rattle.std.specs.List.{range_with_len}
 use Rattle.std.specs.declared.sync.Arc.{Arc}
 use Rattle.tree_machine.specs.Rules.{Rules}
@@ -18,7 +18,9 @@ use Rattle.book.specs.Labels.{Kept, same_as}
 use Rattle.book.specs.Slots.{AllStates, AreStatesOf, IsOpenFrom}
 use Rattle.book.specs.Layers.{IsExpandedTo, IsLeftTo}
 use Rattle.book.specs.Ways.{IsWay}
-use Rattle.replay.specs.Schedule.{after, AreOneBy, IsDecided}
+use Rattle.replay.specs.Schedule.{after, AreOneBy, IsDecided, StepMachine}
+use Rattle.replay.specs.declared.finding.Finding.{Finding}
+use Rattle.std.proofs.lemmas.Option.{same_Some}
 use Rattle.book.proofs.Agreeing.{book_as, finds_as, reached_as}
 use Rattle.book.proofs.Coverage.{stands_along}
 use Rattle.book.proofs.Growth.{all_expanded, steps_bounded, is_left, none_left}
@@ -40,21 +42,27 @@ module _ {Machine Memory Place Form : Type 0} {rules : Machine → Rules Memory 
     {label_of : State Machine Memory Place Form → List ℕ}
     {b : Contents Machine (State Machine Memory Place Form)}
     (book : IsBook rules label_of b) where
-  abbrev pub same_in : State Machine Memory Place Form → State Machine Memory Place Form → Bool
+  abbrev S : Type 0
+  S = State Machine Memory Place Form
+
+  abbrev m : StepMachine S
+  m = machine_in rules b
+
+  abbrev right : S → Finding → Type 0
+  right = right_in rules b
+
+  abbrev pub same_in : S → S → Bool
   same_in = same_as label_of
 
   -- each entry has fewer steps than the book may have entries
-  bounded_at : (i : ℕ) (e : Entry (State Machine Memory Place Form)) → At b.entries i e → e.state.steps < b.limit
+  bounded_at : (i : ℕ) (e : Entry S) → At b.entries i e → e.state.steps < b.limit
   bounded_at i e at =
-      steps_bounded (machine_in rules b) same_in (right_in rules b) book.machine b.entries book.law.law i b.limit e at
-      book.law.within
+      steps_bounded m same_in right book.machine b.entries book.law.law i b.limit e at book.law.within
 
-  module _ (now : Contents Machine (State Machine Memory Place Form)) (view : b ≡ now) (i : ℕ)
-      (next : (e : Entry (State Machine Memory Place Form)) × IsNext (machine_in rules now).steps now.entries i e) where
-    next_here : (e : Entry (State Machine Memory Place Form)) × IsNext (machine_in rules b).steps b.entries i e
-    next_here =
-        subst (λ (q : Contents Machine (State Machine Memory Place Form)). (e : Entry (State Machine Memory Place Form))
-        × IsNext (machine_in rules q).steps q.entries i e) (sym view) next
+  module _ (now : Contents Machine S) (view : b ≡ now) (i : ℕ)
+      (next : (e : Entry S) × IsNext (machine_in rules now).steps now.entries i e) where
+    next_here : (e : Entry S) × IsNext m.steps b.entries i e
+    next_here = rw view next
 
     -- the book with the next entry taken
     pub next_taken : IsBook rules label_of
@@ -68,8 +76,7 @@ module _ {Machine Memory Place Form : Type 0} {rules : Machine → Rules Memory 
         })
     next_taken =
         record {
-          law = taken_book (machine_in rules b) same_in (right_in rules b) book.machine book.merges b book.law i
-              next_here.0 next_here.1;
+          law = taken_book m same_in right book.machine book.merges b book.law i next_here.0 next_here.1;
           limits = book.limits;
           machine = book.machine;
           merges = book.merges;
@@ -77,66 +84,54 @@ module _ {Machine Memory Place Form : Type 0} {rules : Machine → Rules Memory 
           counts = book.counts;
         }
 
-    pub taken_one : (r : State Machine Memory Place Form) → (e : Entry (State Machine Memory Place Form))
+    pub taken_one : (r : S) → (e : Entry S)
         × At b.entries i e × (e.state ≡ r)
-        → (state : State Machine Memory Place Form) → state ≡ r
-        → {labels : List (List ℕ)} (new : Kept (State Machine Memory Place Form))
+        → (state : S) → state ≡ r
+        → {labels : List (List ℕ)} (new : Kept S)
         → new ≡ record { entries = with_mark b.entries i Taken; labels = labels }
         → IsTakenOne rules now i state new.entries
     taken_one r there state is new after =
         let entry = next_here in
-        let same_entry : entry.0 ≡ there.0 = (let u : slice_get b.entries i ≡ Some entry.0 = entry.1.entry in
-        let v : slice_get b.entries i ≡ Some there.0 = there.1 in cc) in
         let own : entry.0.state ≡ state =
-        ap (λ (e : Entry (State Machine Memory Place Form)). e.state) same_entry ∙ there.2 ∙ sym is in
-        subst (λ (q : Contents Machine (State Machine Memory Place Form)). IsTakenOne rules q i state new.entries) view
-        (record {
-          takes = record {
-            entry = entry.0;
-            next = entry.1;
-            state = own;
-            after = ap (λ (kept : Kept (State Machine Memory Place Form)). kept.entries) after;
-          };
-          fits = subst (λ (v : State Machine Memory Place Form). Fits (rules b.machine) b.program v) own
-              (book.law.law.fit i entry.0 entry.1.entry);
-          bounded = subst (λ (v : State Machine Memory Place Form). v.steps < b.limit) own
-              (bounded_at i entry.0 entry.1.entry);
+        ap (λ (e : Entry S). e.state) (same_Some entry.0 there.0 (sym entry.1.entry ∙ there.1)) ∙ there.2 ∙ sym is in
+        rw (← view) (record {
+          takes = record { entry = entry.0; next = entry.1; state = own; after = rw after refl };
+          fits = rw (← own) (book.law.law.fit i entry.0 entry.1.entry);
+          bounded = rw (← own) (bounded_at i entry.0 entry.1.entry);
         })
 
   -- what is so of each state of the entries is so of those that are lent
-  pub states_fit : {A : Type 0} (range : List (ℕ × Arc (State Machine Memory Place Form) A))
+  pub states_fit : {A : Type 0} (range : List (ℕ × Arc S A))
       → AreStatesOf b.entries range → AllStates (Fits (rules b.machine) b.program) range
   states_fit range states =
-      so_of_range (machine_in rules b) same_in (right_in rules b) (Fits (rules b.machine) b.program) b.entries range
-      book.law.law.fit states
+      so_of_range m same_in right (Fits (rules b.machine) b.program) b.entries range book.law.law.fit states
 
-  pub states_bounded : {A : Type 0} (range : List (ℕ × Arc (State Machine Memory Place Form) A))
+  pub states_bounded : {A : Type 0} (range : List (ℕ × Arc S A))
       → AreStatesOf b.entries range → AllStates (λ state. state.steps < b.limit) range
   states_bounded range states =
-      so_of_range (machine_in rules b) same_in (right_in rules b) (λ state. state.steps < b.limit) b.entries range
-      bounded_at states
+      so_of_range m same_in right (λ state. state.steps < b.limit) b.entries range bounded_at states
 
   -- what is so of each state of the entries is so of one that is lent
-  module _ (i : ℕ) (state : State Machine Memory Place Form)
-      (at : (e : Entry (State Machine Memory Place Form)) × At b.entries i e × (e.state ≡ state)) where
+  module _ (i : ℕ) (state : S)
+      (at : (e : Entry S) × At b.entries i e × (e.state ≡ state)) where
     pub state_bounded : state.steps < b.limit
-    state_bounded = subst (λ (v : State Machine Memory Place Form). v.steps < b.limit) at.2 (bounded_at i at.0 at.1)
+    state_bounded = rw (← at.2) (bounded_at i at.0 at.1)
 
   -- the layer of the next entry ends before the first entry of more steps
-  module _ (now : Contents Machine (State Machine Memory Place Form)) (view : b ≡ now) (start end k : ℕ)
-      (next : (e : Entry (State Machine Memory Place Form)) × IsNext (machine_in rules now).steps now.entries start e)
-      (first : position (λ (e : Entry (State Machine Memory Place Form)). is_open e.mark) now.entries ≡ Some start)
+  module _ {now : Contents Machine S} (view : b ≡ now) {start end k : ℕ}
+      (next : (e : Entry S) × IsNext (machine_in rules now).steps now.entries start e)
+      (first : position (λ (e : Entry S). is_open e.mark) now.entries ≡ Some start)
       (above : IsOpenFrom now.entries start)
-      (steps : (e : Entry (State Machine Memory Place Form)) × At b.entries start e × (e.state.steps ≡ k))
-      (below : (i : ℕ) (e : Entry (State Machine Memory Place Form)) → At now.entries i e → i < end → e.state.steps ≤ k)
-      (beyond : (i : ℕ) (e : Entry (State Machine Memory Place Form)) → At now.entries i e → end ≤ i
+      (steps : (e : Entry S) × At b.entries start e × (e.state.steps ≡ k))
+      (below : (i : ℕ) (e : Entry S) → At now.entries i e → i < end → e.state.steps ≤ k)
+      (beyond : (i : ℕ) (e : Entry S) → At now.entries i e → end ≤ i
       → k < e.state.steps) (within : end ≤ length now.entries) where
-    pub layer : IsLayerAt (machine_in rules b).steps b.entries start end
-    layer =
-        layer_at (machine_in rules b) same_in (right_in rules b) b.entries now.entries
-        (ap (λ (q : Contents Machine (State Machine Memory Place Form)). q.entries) view) start next first above
-        end k steps below beyond within
+    pub layer_there : IsLayerAt m.steps b.entries start end
+    layer_there =
+        layer_at m same_in right b.entries now.entries (ap (λ (q : Contents Machine S). q.entries) view) start next
+        first above end k steps below beyond within
 
+  module _ {start end : ℕ} (layer : IsLayerAt m.steps b.entries start end) where
     -- the book with it taken
     pub layer_taken : IsBook rules label_of
         (record {
@@ -149,8 +144,7 @@ module _ {Machine Memory Place Form : Type 0} {rules : Machine → Rules Memory 
         })
     layer_taken =
         record {
-          law = range_book (machine_in rules b) same_in (right_in rules b) book.machine book.merges
-              (end - start) start b book.law layer.range;
+          law = range_book m same_in right book.machine book.merges (end - start) start b book.law layer.range;
           limits = book.limits;
           machine = book.machine;
           merges = book.merges;
@@ -158,149 +152,138 @@ module _ {Machine Memory Place Form : Type 0} {rules : Machine → Rules Memory 
           counts = book.counts;
         }
 
-    pub layer_given : {A : Type 0} (range : List (ℕ × Arc (State Machine Memory Place Form) A))
-        → map (λ (p : ℕ × Arc (State Machine Memory Place Form) A). p.0) range ≡ range_with_len start (end - start)
+    pub layer_given : {A : Type 0} (range : List (ℕ × Arc S A))
+        → map (λ (p : ℕ × Arc S A). p.0) range ≡ range_with_len start (end - start)
         → AreStatesOf b.entries range → {labels : List (List ℕ)}
-        (new : Kept (State Machine Memory Place Form))
+        (new : Kept S)
         → new ≡ record { entries = with_marks b.entries (range_with_len start (end - start)) Taken; labels = labels }
-        → TakesLayer (machine_in rules b).steps b.entries new.entries range
+        → TakesLayer m.steps b.entries new.entries range
     layer_given range numbers states new after =
         let some : start < end = layer.some in
-        takes_layer (machine_in rules b).steps b.entries new.entries start (end - start) range layer.range
-        (omega arith) layer.entry layer.there layer.later numbers states
-        (ap (λ (kept : Kept (State Machine Memory Place Form)). kept.entries) after)
+        takes_layer m.steps b.entries new.entries start (end - start) range layer.range
+        (omega arith) layer.entry layer.there layer.later numbers states (rw after refl)
 
-    pub range_given : {labels : List (List ℕ)} (new : Kept (State Machine Memory Place Form))
+    pub range_given : {labels : List (List ℕ)} (new : Kept S)
         → new ≡ record { entries = with_marks b.entries (range_with_len start (end - start)) Taken; labels = labels }
-        → TakesRange (machine_in rules b).steps b.entries new.entries start end
+        → TakesRange m.steps b.entries new.entries start end
     range_given new after =
         let some : start < end = layer.some in
-        takes_range (machine_in rules b).steps b.entries new.entries start end (omega arith) layer.range
-        (omega arith) layer.entry layer.there layer.later
-        (ap (λ (kept : Kept (State Machine Memory Place Form)). kept.entries) after)
+        takes_range m.steps b.entries new.entries start end (omega arith) layer.range
+        (omega arith) layer.entry layer.there layer.later (rw after refl)
 
   -- none is next where all are expanded, or none is open
-  pub none_of_expanded : position (λ (e : Entry (State Machine Memory Place Form)). not (is_expanded e.mark)) b.entries
+  pub none_of_expanded : position (λ (e : Entry S). not (is_expanded e.mark)) b.entries
       ≡ None
-      → (i : ℕ) (e : Entry (State Machine Memory Place Form)) → IsNext (machine_in rules b).steps b.entries i e → ⊥
-  none_of_expanded = no_next_expanded (machine_in rules b) same_in (right_in rules b) b.entries book.law.law
+      → (i : ℕ) (e : Entry S) → IsNext m.steps b.entries i e → ⊥
+  none_of_expanded = no_next_expanded m same_in right b.entries book.law.law
 
-  pub none_of_open : position (λ (e : Entry (State Machine Memory Place Form)). is_open e.mark) b.entries ≡ None
-      → (i : ℕ) (e : Entry (State Machine Memory Place Form)) → IsNext (machine_in rules b).steps b.entries i e → ⊥
-  none_of_open = no_next_open (machine_in rules b) same_in (right_in rules b) b.entries book.law.law
+  pub none_of_open : position (λ (e : Entry S). is_open e.mark) b.entries ≡ None
+      → (i : ℕ) (e : Entry S) → IsNext m.steps b.entries i e → ⊥
+  none_of_open = no_next_open m same_in right b.entries book.law.law
 
   -- a is the first that is not expanded, which has j steps, and c the first open one, which has k
   module _ (a c j k : ℕ)
-      (left : position (λ (e : Entry (State Machine Memory Place Form)). not (is_expanded e.mark)) b.entries ≡ Some a)
-      (first : position (λ (e : Entry (State Machine Memory Place Form)). is_open e.mark) b.entries ≡ Some c)
-      (at_a : (e : Entry (State Machine Memory Place Form)) × At b.entries a e × (e.state.steps ≡ j))
-      (at_c : (e : Entry (State Machine Memory Place Form)) × At b.entries c e × (e.state.steps ≡ k)) where
-    pub open_is_next : k ≡ j → (e : Entry (State Machine Memory Place Form))
-        × IsNext (machine_in rules b).steps b.entries c e
+      (left : position (λ (e : Entry S). not (is_expanded e.mark)) b.entries ≡ Some a)
+      (first : position (λ (e : Entry S). is_open e.mark) b.entries ≡ Some c)
+      (at_a : (e : Entry S) × At b.entries a e × (e.state.steps ≡ j))
+      (at_c : (e : Entry S) × At b.entries c e × (e.state.steps ≡ k)) where
+    pub open_is_next : k ≡ j → (e : Entry S)
+        × IsNext m.steps b.entries c e
     open_is_next same = (
       at_c.0,
-      next_from (machine_in rules b) same_in (right_in rules b) b.entries book.law.law a c left first at_a.0
+      next_from m same_in right b.entries book.law.law a c left first at_a.0
           at_c.0 at_a.1 at_c.1 (at_c.2 ∙ same ∙ sym at_a.2),
     )
 
-    pub open_is_later : (k ≡ j → ⊥) → (i : ℕ) (e : Entry (State Machine Memory Place Form))
-        → IsNext (machine_in rules b).steps b.entries i e → ⊥
+    pub open_is_later : (k ≡ j → ⊥) → (i : ℕ) (e : Entry S)
+        → IsNext m.steps b.entries i e → ⊥
     open_is_later other =
-        no_next_later (machine_in rules b) same_in (right_in rules b) b.entries book.law.law a c left first at_a.0
-        at_c.0 at_a.1 at_c.1
+        no_next_later m same_in right b.entries book.law.law a c left first at_a.0 at_c.0 at_a.1 at_c.1
         (λ (q : at_c.0.state.steps ≡ at_a.0.state.steps). other (sym at_c.2 ∙ q ∙ at_a.2))
 
   -- where no entry is left, all of at most n steps are expanded
-  pub all_expanded_to : (n : ℕ) → position (λ (e : Entry (State Machine Memory Place Form)). not (is_expanded e.mark))
-      b.entries ≡ None → IsExpandedTo (machine_in rules b).steps b.entries n
-  all_expanded_to = all_expanded (machine_in rules b) same_in (right_in rules b) book.machine b.entries book.law.law
+  pub all_expanded_to : (n : ℕ) → position (λ (e : Entry S). not (is_expanded e.mark))
+      b.entries ≡ None → IsExpandedTo m.steps b.entries n
+  all_expanded_to = all_expanded m same_in right book.machine b.entries book.law.law
 
   module _ (a k n : ℕ)
-      (left : position (λ (e : Entry (State Machine Memory Place Form)). not (is_expanded e.mark)) b.entries ≡ Some a)
-      (at_a : (e : Entry (State Machine Memory Place Form)) × At b.entries a e × (e.state.steps ≡ k)) where
-    pub left_to : k ≤ n → IsLeftTo (machine_in rules b).steps b.entries n
+      (left : position (λ (e : Entry S). not (is_expanded e.mark)) b.entries ≡ Some a)
+      (at_a : (e : Entry S) × At b.entries a e × (e.state.steps ≡ k)) where
+    pub left_to : k ≤ n → IsLeftTo m.steps b.entries n
     left_to le =
         let steps : at_a.0.state.steps ≡ k = at_a.2 in
-        is_left (machine_in rules b) same_in (right_in rules b) book.machine b.entries book.law.law a left at_a.0 at_a.1
-        n (omega arith)
+        is_left m same_in right book.machine b.entries book.law.law a left at_a.0 at_a.1 n (omega arith)
 
-    pub none_left_to : n < k → IsExpandedTo (machine_in rules b).steps b.entries n
+    pub none_left_to : n < k → IsExpandedTo m.steps b.entries n
     none_left_to less =
         let steps : at_a.0.state.steps ≡ k = at_a.2 in
-        none_left (machine_in rules b) same_in (right_in rules b) book.machine b.entries book.law.law a left at_a.0
-        at_a.1 n (omega arith)
+        none_left m same_in right book.machine b.entries book.law.law a left at_a.0 at_a.1 n (omega arith)
 
   -- each state that a stood-for one reaches is stood for
-  pub stands_for_reached : StandsForReached (machine_in rules b) (AreOneBy same_in) b.entries
+  pub stands_for_reached : StandsForReached m (AreOneBy same_in) b.entries
   stands_for_reached =
-      stands_along (machine_in rules b) same_in (right_in rules b) book.machine book.merges b.entries book.law.law
+      stands_along m same_in right book.machine book.merges b.entries book.law.law
 
   -- what is known by labels is so by what counts as one
   pub lawful_in : IsLawfulIn rules b
   lawful_in =
-      book_as (machine_in rules b) book.machine (AreOneBy same_in) (CountsAsOne (rules b.machine) b.merge) book.counts
-      (right_in rules b) b book.law
+      book_as m book.machine (AreOneBy same_in) (CountsAsOne (rules b.machine) b.merge) book.counts right b book.law
 
-  pub finds_in : FindsAlike (machine_in rules b) (CountsAsOne (rules b.machine) b.merge) (right_in rules b)
+  pub finds_in : FindsAlike m (CountsAsOne (rules b.machine) b.merge) right
   finds_in =
-      finds_as (machine_in rules b) book.machine (AreOneBy same_in) (CountsAsOne (rules b.machine) b.merge) book.counts
-      (right_in rules b) book.findings
+      finds_as m book.machine (AreOneBy same_in) (CountsAsOne (rules b.machine) b.merge) book.counts
+      right book.findings
 
-  pub reached_in : StandsForReached (machine_in rules b) (CountsAsOne (rules b.machine) b.merge) b.entries
+  pub reached_in : StandsForReached m (CountsAsOne (rules b.machine) b.merge) b.entries
   reached_in =
-      reached_as (machine_in rules b) book.machine (AreOneBy same_in) (CountsAsOne (rules b.machine) b.merge)
+      reached_as m book.machine (AreOneBy same_in) (CountsAsOne (rules b.machine) b.merge)
       book.counts b.entries book.law.law.fit stands_for_reached
 
-  pub decided_in : IsDecided (machine_in rules b) (CountsAsOne (rules b.machine) b.merge)
+  pub decided_in : IsDecided m (CountsAsOne (rules b.machine) b.merge)
   decided_in = (same_in, book.merges, book.counts)
 
   -- the way to an entry, followed back
-  module _ (now : Contents Machine (State Machine Memory Place Form)) (view : b ≡ now) where
+  module _ (now : Contents Machine S) (view : b ≡ now) where
     module _ (i id : ℕ) (c : List ℕ) (o : Option Origin)
-        (entry : (e : Entry (State Machine Memory Place Form)) × At b.entries i e × (e.origin ≡ o)) where
+        (entry : (e : Entry S) × At b.entries i e × (e.origin ≡ o)) where
       pub earlier_origin : (origin : Origin) → o ≡ Some origin → origin.parent < i
       earlier_origin origin is =
-          (step_of (machine_in rules b) same_in (right_in rules b) b.entries book.law.law i entry.0 origin entry.1
-          (entry.2 ∙ is)).2
+          (step_of m same_in right b.entries book.law.law i entry.0 origin entry.1 (entry.2 ∙ is)).2
 
       pub one_back : (origin : Origin) → o ≡ Some origin → IsWay now.entries i (reverse c) id
           → (origin.parent < length now.entries)
           × IsWay now.entries origin.parent (reverse (c ++ origin.thread ∷ [])) id
       one_back origin is =
-          subst (λ (q : Contents Machine (State Machine Memory Place Form)). IsWay q.entries i (reverse c) id
+          subst (λ (q : Contents Machine S). IsWay q.entries i (reverse c) id
           → (origin.parent < length q.entries)
           × IsWay q.entries origin.parent (reverse (c ++ origin.thread ∷ [])) id) view
-          (way_back (machine_in rules b) same_in (right_in rules b) b.entries book.law.law i id c entry.0 origin entry.1
-          (entry.2 ∙ is))
+          (way_back m same_in right b.entries book.law.law i id c entry.0 origin entry.1 (entry.2 ∙ is))
 
       pub at_start : o ≡ None → IsWay now.entries i c id → IsWay now.entries 0 c id
       at_start is =
-          subst (λ (q : Contents Machine (State Machine Memory Place Form)). IsWay q.entries i c id
-          → IsWay q.entries 0 c id) view
-          (way_ends (machine_in rules b) same_in (right_in rules b) b.entries book.law.law i id c entry.0 entry.1
+          subst (λ (q : Contents Machine S). IsWay q.entries i c id
+          → IsWay q.entries 0 c id) view (way_ends m same_in right b.entries book.law.law i id c entry.0 entry.1
           (entry.2 ∙ is))
 
     pub way_leads_to : (c : List ℕ) (id : ℕ) → id < length now.entries → IsWay now.entries 0 c id
-        → (e : Entry (State Machine Memory Place Form)) × At now.entries id e
+        → (e : Entry S) × At now.entries id e
         × (after (machine_in rules now) c ≡ Some e.state) × (length c ≡ e.state.steps)
     way_leads_to c id =
-        subst (λ (q : Contents Machine (State Machine Memory Place Form)). id < length q.entries
+        subst (λ (q : Contents Machine S). id < length q.entries
         → IsWay q.entries 0 c id
-        → (e : Entry (State Machine Memory Place Form)) × At q.entries id e
+        → (e : Entry S) × At q.entries id e
         × (after (machine_in rules q) c ≡ Some e.state) × (length c ≡ e.state.steps)) view here
       where
         here : id < length b.entries → IsWay b.entries 0 c id
-            → (e : Entry (State Machine Memory Place Form)) × At b.entries id e
-            × (after (machine_in rules b) c ≡ Some e.state) × (length c ≡ e.state.steps)
+            → (e : Entry S) × At b.entries id e
+            × (after m c ≡ Some e.state) × (length c ≡ e.state.steps)
         here within way =
             let e = get_at b.entries id within in
             let leads =
-            way_run (machine_in rules b) same_in (right_in rules b) b.entries book.law.law book.machine c id e.0 e.1
-            way in
+            way_run m same_in right b.entries book.law.law book.machine c id e.0 e.1 way in
             (e.0, e.1, leads.0, leads.1)
 
     pub no_other_way : (c d : List ℕ) (id : ℕ) → IsWay now.entries 0 c id → IsWay now.entries 0 d id → d ≡ c
     no_other_way c d id =
-        subst (λ (q : Contents Machine (State Machine Memory Place Form)). IsWay q.entries 0 c id
-        → IsWay q.entries 0 d id → d ≡ c) view
-        (one_way (machine_in rules b) same_in (right_in rules b) b.entries book.law.law c d id)
+        subst (λ (q : Contents Machine S). IsWay q.entries 0 c id
+        → IsWay q.entries 0 d id → d ≡ c) view (one_way m same_in right b.entries book.law.law c d id)

@@ -1,10 +1,11 @@
 -- Labels in place of states.
 use Rattle.std.proofs.Common.{◌≡◌, ℕ, zero, suc, Bool, true, false, cond, ◌||◌, Option, Some, None, List, [], ◌∷◌, ◌++◌}
 use Rattle.std.proofs.Common.{◌+◌, length, map, drop, refl, sym, ap, ◌∙◌, arith, slice_get, subst, true≢false}
-use Rattle.std.proofs.Common.{IsSome, length-append}
+use Rattle.std.proofs.Common.{IsSome, length-append, inl, inr}
 use Rattle.std.specs.Prelude.{unwrap_or}
 use Rattle.std.specs.List.{All}
 use Rattle.std.proofs.Math.ListN.{length-map}
+use Rattle.std.proofs.lemmas.Bool.{cond_both}
 use Rattle.std.proofs.lemmas.List.{append_cancel_left, map-append, take-append-drop}
 use Rattle.tree_machine.proofs.Lists.{get-append_right}
 use Rattle.book.specs.declared.entry.Mark.{Mark}
@@ -12,6 +13,7 @@ use Rattle.book.specs.declared.entry.Origin.{Origin}
 use Rattle.book.specs.Entries.{Entry, Successor, At, opened, states, with_mark, with_marks}
 use Rattle.book.specs.Unknown.{knows, unknown}
 use Rattle.book.specs.Labels.{AreKnownBy, Kept, labelled, same_as, same_label, steps_of}
+use Rattle.book.proofs.Unknown.{get-cons_cases}
 use Rattle.book.specs.Slots.{AreSteps, IsGrown, entries_of, keyed_of, labels_of}
 
 -- what stands behind the old ones
@@ -69,16 +71,13 @@ module _ {S : Type 0} where
       → (k : ℕ) (y : Successor S) → slice_get (unknown same known ys) k ≡ Some y → P y
   unknown_all same P known [] all k y at = absurd (let q : None ≡ Some y = at in cc)
   unknown_all same P known (x ∷ xs) all k y at =
-      by (knows same known x.state) (unknown_all same P known xs (λ j. all (suc j)))
-      (unknown_all same P (known ++ x.state ∷ []) xs (λ j. all (suc j))) k y at
-    where
-      by : (b : Bool) → ((k : ℕ) (y : Successor S) → slice_get (unknown same known xs) k ≡ Some y → P y)
-          → ((k : ℕ) (y : Successor S) → slice_get (unknown same (known ++ x.state ∷ []) xs) k ≡ Some y → P y)
-          → (k : ℕ) (y : Successor S)
-          → slice_get (cond b (unknown same known xs) (x ∷ unknown same (known ++ x.state ∷ []) xs)) k ≡ Some y → P y
-      by true h w k y at = h k y at
-      by false h w zero y at = let q : x ≡ y = cc in subst P q (all 0 x refl)
-      by false h w (suc k) y at = w k y at
+      cond_both (knows same known x.state) (unknown same known xs) (x ∷ unknown same (known ++ x.state ∷ []) xs)
+      (λ (zs : List (Successor S)). slice_get zs k ≡ Some y → P y)
+      (λ e. unknown_all same P known xs (λ j. all (suc j)) k y)
+      (λ e at. elim (get-cons_cases x (unknown same (known ++ x.state ∷ []) xs) k y at) [
+        | inl l ↦ subst P l.1 (all 0 x refl)
+        | inr r ↦ unknown_all same P (known ++ x.state ∷ []) xs (λ j. all (suc j)) r.0 y r.2
+      ]) at
 
   module _ (label_of : S → List ℕ) where
     knows_labelled : (known : List S) (s : S)
@@ -138,8 +137,7 @@ module _ {S : Type 0} where
           let origin : p.1.origin ≡ Some (record { parent = i; thread = z.thread }) =
           ap (λ (e : Entry (List ℕ)). e.origin) head in
           let mark : p.1.mark ≡ (opened i z).mark = ap (λ (e : Entry (List ℕ)). e.mark) head in
-          let same_origin : row.0 ≡ record { parent = i; thread = z.thread } =
-          (let q : p.1.origin ≡ Some row.0 = row.1 in cc) in
+          let same_origin : row.0 ≡ record { parent = i; thread = z.thread } = cc (row.1, origin) in
           let to_row : step s z.thread ≡ Some p.1.state =
           ap (λ (o : Origin). step s o.thread) (sym same_origin) ∙ row.2 in
           let to_step : step s z.thread ≡ Some z.state = leads 0 z refl in
@@ -225,8 +223,7 @@ module _ {S : Type 0} (label_of : S → List ℕ) (step : S → ℕ → Option S
     (is : after ≡ record { entries = entries_of new; labels = labels_of new }) where
   own_rows : AreSteps step e.state old new
   own_rows =
-      let same : row ≡ e = (let u : slice_get kept.entries i ≡ Some row = at_row in
-      let v : slice_get kept.entries i ≡ Some e = at in cc) in
+      let same : row ≡ e = cc (at_row, at) in
       subst (λ (s : S). AreSteps step s old new) (shown ∙ ap (λ (d : Entry S). d.state) same) rows
 
   known_before : labels_of old ≡ map (λ (d : Entry S). label_of d.state) (entries_of old)

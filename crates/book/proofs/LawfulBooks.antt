@@ -1,7 +1,7 @@
 -- A book stays lawful, its totals included.
 use Rattle.std.proofs.Common.{◌≡◌, ℕ, zero, suc, ◌+◌, ◌*◌, ◌^◌, ◌<◌, ◌≤◌, Bool, true, false, cond, Some, None, is_some}
-use Rattle.std.proofs.Common.{List, [], ◌∷◌, length, map, sum_by, refl, sym, ap, ◌∙◌, arith, subst, length-append}
-use Rattle.std.specs.List.{range_with_len, count_by}
+use Rattle.std.proofs.Common.{List, [], ◌∷◌, length, map, sum_by, refl, sym, ap, ◌∙◌, arith, length-append}
+use Rattle.std.specs.List.{range_with_len}
 use Rattle.std.proofs.Math.ListN.{length-map}
 use Rattle.std.proofs.lemmas.List.FromFn.{length-range_with_len}
 use Rattle.std.proofs.lemmas.List.Sums.{sum_by-cons, sum_by-append, length-filter, count_by-le-length}
@@ -40,15 +40,11 @@ module _ {S : Type 0} (m : StepMachine S) where
       sum_by-cons (steps_entered m) d es in
       omega arith
   sum-with_mark (d ∷ es) (suc i) k e at closed =
-      let a : sum_by (steps_entered m) (d ∷ with_mark es i k)
-      ≡ steps_entered m d + sum_by (steps_entered m) (with_mark es i k) =
-      sum_by-cons (steps_entered m) d (with_mark es i k) in
-      let b : sum_by (steps_entered m) (d ∷ es) ≡ steps_entered m d + sum_by (steps_entered m) es =
-      sum_by-cons (steps_entered m) d es in
-      let r : sum_by (steps_entered m) (with_mark es i k)
-      ≡ sum_by (steps_entered m) es + cond (is_expanded k) (length (enabled_threads m e.state)) 0 =
-      sum-with_mark es i k e at closed in
-      omega arith
+      rw (
+        sum_by-cons (steps_entered m) d (with_mark es i k),
+        sum_by-cons (steps_entered m) d es,
+        sum-with_mark es i k e at closed,
+      ) (omega arith)
 
   sum-opened : (i : ℕ) (us : List (Successor S)) → sum_by (steps_entered m) (map (opened i) us) ≡ 0
   sum-opened i [] = refl
@@ -57,12 +53,10 @@ module _ {S : Type 0} (m : StepMachine S) where
 
   steps_bounded : IsMachine m → (s : S) → length (enabled_threads m s) < 256
   steps_bounded machine s =
-      let a : length (enabled_threads m s) ≡ count_by (λ t. is_some (m.step s t)) (range_with_len 0 m.threads) =
-      length-filter (λ t. is_some (m.step s t)) (range_with_len 0 m.threads) in
-      let b : count_by (λ t. is_some (m.step s t)) (range_with_len 0 m.threads) ≤ length (range_with_len 0 m.threads) =
-      count_by-le-length (λ t. is_some (m.step s t)) (range_with_len 0 m.threads) in
-      let l : length (range_with_len 0 m.threads) ≡ m.threads = length-range_with_len 0 m.threads in
-      let f : m.threads < 256 = machine.threads_bounded in
+      let a = length-filter (λ t. is_some (m.step s t)) (range_with_len 0 m.threads) in
+      let b = count_by-le-length (λ t. is_some (m.step s t)) (range_with_len 0 m.threads) in
+      let l = length-range_with_len 0 m.threads in
+      let f = machine.threads_bounded in
       omega arith
 
   steps_bound : IsMachine m → (es : List (Entry S)) → sum_by (steps_entered m) es ≤ 256 * length es
@@ -102,24 +96,14 @@ module _ {X S : Type 0} (m : StepMachine S) (same : S → S → Bool) (right : S
           distinct =
               (λ i j d g at_i at_j h. let w : i < 1 = slice_get_within (e ∷ []) i d at_i in
               let v : j < 1 = slice_get_within (e ∷ []) j g at_j in omega arith);
-          findings = (λ i d at. subst (λ (v : Entry S). right v.state v.finding) (only e i d at) is_right);
-          fit = (λ i d at. subst (λ (v : Entry S). m.Fits v.state) (only e i d at) is_fit);
+          findings = (λ i d at. rw (← only e i d at) is_right);
+          fit = (λ i d at. rw (← only e i d at) is_fit);
           stands =
               (λ i t d r at done leads. absurd (let o : Open ≡ d.mark = ap (λ (v : Entry S). v.mark) (only e i d at) in
               cc));
-          ordered =
-              (λ i j d g at_i at_j le. let a : m.steps s
-              ≡ m.steps d.state = ap (λ (v : Entry S). m.steps v.state) (only e i d at_i) in
-              let b : m.steps s ≡ m.steps g.state = ap (λ (v : Entry S). m.steps v.state) (only e j g at_j) in
-              omega arith);
-          least = (λ i j d g at_i taken at_j h. let a : m.steps s
-              ≡ m.steps d.state = ap (λ (v : Entry S). m.steps v.state) (only e i d at_i) in
-              let b : m.steps s ≡ m.steps g.state = ap (λ (v : Entry S). m.steps v.state) (only e j g at_j) in
-              omega arith);
-          near = (λ i j d g at_i h at_j. let a : m.steps s
-              ≡ m.steps d.state = ap (λ (v : Entry S). m.steps v.state) (only e i d at_i) in
-              let b : m.steps s ≡ m.steps g.state = ap (λ (v : Entry S). m.steps v.state) (only e j g at_j) in
-              omega arith);
+          ordered = (λ i j d g at_i at_j le. rw (← only e i d at_i, ← only e j g at_j) (omega arith));
+          least = (λ i j d g at_i taken at_j h. rw (← only e i d at_i, ← only e j g at_j) (omega arith));
+          near = (λ i j d g at_i h at_j. rw (← only e i d at_i, ← only e j g at_j) (omega arith));
         };
         within = some;
         limit = bounded;
@@ -187,17 +171,11 @@ module _ {X S : Type 0} (m : StepMachine S) (same : S → S → Bool) (right : S
           within = omega arith;
           limit = book.limit;
           counted = (
-              let p : sum_by (steps_entered m) (with_successors same b.entries i xs)
-              ≡ sum_by (steps_entered m) (with_mark b.entries i Expanded) + sum_by (steps_entered m)
-              (map (opened i) (unknown same (states b.entries) xs)) =
-              sum_by-append (steps_entered m) (with_mark b.entries i Expanded)
-              (map (opened i) (unknown same (states b.entries) xs)) in
-              let z : sum_by (steps_entered m) (map (opened i) (unknown same (states b.entries) xs)) ≡ 0 =
-              sum-opened m i (unknown same (states b.entries) xs) in
-              let q : sum_by (steps_entered m) (with_mark b.entries i Expanded)
-              ≡ sum_by (steps_entered m) b.entries + length (enabled_threads m e.state) =
-              sum-with_mark m b.entries i Expanded e at_i (taken_left e.mark is_taken) in
-              let c : length b.entries + b.met ≡ 1 + sum_by (steps_entered m) b.entries = book.counted in
+              let us = unknown same (states b.entries) xs in
+              let p = sum_by-append (steps_entered m) (with_mark b.entries i Expanded) (map (opened i) us) in
+              let z = sum-opened m i us in
+              let q = sum-with_mark m b.entries i Expanded e at_i (taken_left e.mark is_taken) in
+              let c = book.counted in
               let t : length xs ≡ length (enabled_threads m e.state) = all_steps in
               omega arith);
         }
@@ -205,10 +183,7 @@ module _ {X S : Type 0} (m : StepMachine S) (same : S → S → Bool) (right : S
     -- the count of known states stays small
     pub met_fits : (old_steps : ℕ) → old_steps ≤ length xs → b.met + old_steps < 2 ^ 64
     met_fits old_steps le =
-        let c : length b.entries + b.met ≡ 1 + sum_by (steps_entered m) b.entries = book.counted in
-        let w : length b.entries ≤ b.limit = book.within in
-        let n : b.limit ≤ 2000000 = book.limit in
-        let s : sum_by (steps_entered m) b.entries ≤ 256 * length b.entries = steps_bound m machine b.entries in
+        let s = steps_bound m machine b.entries in
         let t : length xs ≡ length (enabled_threads m e.state) = all_steps in
-        let f : length (enabled_threads m e.state) < 256 = steps_bounded m machine e.state in
+        let f = steps_bounded m machine e.state in
         omega arith

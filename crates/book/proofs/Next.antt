@@ -8,12 +8,11 @@ use Rattle.std.proofs.lemmas.List.Quantifiers.{position-Some}
 use Rattle.std.proofs.lemmas.List.Sums.{fails_before_first}
 use Rattle.tree_machine.proofs.Lists.{get_at}
 use Rattle.replay.specs.declared.finding.Finding.{Finding}
-use Rattle.book.specs.declared.entry.Mark.{Mark}
-use Rattle.book.specs.declared.entry.Mark.TheVariants.{Open, Taken, Expanded}
+use Rattle.book.specs.declared.entry.Mark.TheVariants.{Open, Expanded}
 use Rattle.replay.specs.Schedule.{AreOneBy, StepMachine}
 use Rattle.book.specs.Entries.{Entry, At, IsNext, is_open, is_expanded}
 use Rattle.book.specs.Law.{IsLawful}
-use Rattle.book.proofs.Marks.{expanded_from, not_expanded_from, open_passes}
+use Rattle.book.proofs.Marks.{open_from, expanded_from, not_expanded_from, open_passes}
 
 module _ {X : Type 0} (p : X → Bool) where
   position-within : (xs : List X) (i : ℕ) → position p xs ≡ Some i → i < length xs
@@ -46,11 +45,6 @@ module _ {X : Type 0} (p : X → Bool) (xs : List X) where
         | inr le ↦ ap p (sym e) ∙ fails_before_first p xs k y (omega arith)
       ]
 
-open_from : (k : Mark) → is_open k ≡ true → k ≡ Open
-open_from Open h = refl
-open_from Taken h = absurd (true≢false (sym h))
-open_from Expanded h = absurd (true≢false (sym h))
-
 module _ {S : Type 0} (m : StepMachine S) (same : S → S → Bool) (right : S → Finding → Type 0) (es : List (Entry S))
     (law : IsLawful m (AreOneBy same) right es) where
   -- where no entry is open, or all are expanded, none is next
@@ -78,9 +72,7 @@ module _ {S : Type 0} (m : StepMachine S) (same : S → S → Bool) (right : S �
         record {
           entry = at_b;
           is_open =
-              (let q : o.0 ≡ e = (let u : slice_get es b ≡ Some o.0 = o.1 in let v : slice_get es b ≡ Some e = at_b in
-              cc) in
-              sym (ap (λ (r : Entry S). r.mark) q) ∙ open_from o.0.mark o.2);
+              (let q : o.0 ≡ e = cc (o.1, at_b) in sym (ap (λ (r : Entry S). r.mark) q) ∙ open_from o.0.mark o.2);
           fewest = (λ j g at not_done. elim (cases_lt j a) [
             | inl l ↦ absurd (not_done (expanded_from g.mark (f.3 j g l at)))
             | inr le ↦ (let p : m.steps d.state ≤ m.steps g.state = law.ordered a j d g at_a at le in omega arith)
@@ -95,12 +87,9 @@ module _ {S : Type 0} (m : StepMachine S) (same : S → S → Bool) (right : S �
     no_next_later differ i g next =
         let f = first_passes (λ (r : Entry S). not (is_expanded r.mark)) es a first in
         let o = first_passes (λ (r : Entry S). is_open r.mark) es b open_one in
-        let d_is : f.0 ≡ d = (let u : slice_get es a ≡ Some f.0 = f.1 in let v : slice_get es a ≡ Some d = at_a in
-        cc) in
-        let e_is : o.0 ≡ e = (let u : slice_get es b ≡ Some o.0 = o.1 in let v : slice_get es b ≡ Some e = at_b in
-        cc) in
-        let d_not : d.mark
-        ≢ Expanded =
+        let d_is : f.0 ≡ d = cc (f.1, at_a) in
+        let e_is : o.0 ≡ e = cc (o.1, at_b) in
+        let d_not : d.mark ≢ Expanded =
         (λ (q : d.mark ≡ Expanded). not_expanded_from f.0.mark f.2 (ap (λ (r : Entry S). r.mark) d_is ∙ q)) in
         let e_open : e.mark ≡ Open = sym (ap (λ (r : Entry S). r.mark) e_is) ∙ open_from o.0.mark o.2 in
         let below : m.steps g.state ≤ m.steps d.state = next.fewest a d at_a d_not in

@@ -2,19 +2,17 @@
 use Rattle.std.proofs.Common.{◌≡◌, ℕ, suc, ◌⊎◌, inl, inr, Option, Some, Result, Ok, Err, IfOk, IfErr, List, [], ◌∷◌}
 use Rattle.std.proofs.Common.{map, refl, sym, ap, ◌∙◌, slice_get, subst}
 use Rattle.std.specs.Prelude.{unwrap_or}
-use Rattle.sched_program.specs.Program.{Program}
 use Rattle.tree_machine.specs.Rules.{Rules}
 use Rattle.tree_machine.specs.Step.{Fits}
 use Rattle.tree_machine.specs.declared.state.State.{State}
 use Rattle.book.specs.declared.book.Entered.{Entered}
 use Rattle.book.specs.declared.book.EnterFault.{EnterFault}
 use Rattle.book.specs.declared.book.EnterFault.TheVariants.{NotTaken, Stranger, Full, OutOfMemory}
-use Rattle.options.specs.declared.options.Merge.{Merge}
 use Rattle.replay.specs.declared.finding.Finding.{Finding}
 use Rattle.book.specs.Books.{machine_in, right_in, CountsAsOne, HoldsSteps}
 use Rattle.book.specs.ByLabel.{expansion_of, AreStepsOf, ExpandedView, IsEntryOf, IsExpandedOf, RefusesEntry}
 use Rattle.book.specs.Entries.{At, Contents, Enters, Entry, IsFullFor, IsOwn, IsTaken, Refuses, Steps, Successor}
-use Rattle.replay.specs.Findings.{machine_of, IsFindingOf}
+use Rattle.replay.specs.Findings.{machine_of}
 use Rattle.book.specs.Labels.{label_by, labelled, steps_of}
 use Rattle.book.specs.Law.{IsExpansion}
 use Rattle.replay.specs.Schedule.{StepMachine}
@@ -53,29 +51,20 @@ module _ {Machine Memory Place Form : Type 0} (rules : Machine → Rules Memory 
       (holds : HoldsSteps rules x) (steps : List (Successor (List ℕ)))
       (are : steps ≡ map (labelled (label_by own_code form_code (form_of x.machine) b.merge)) x.successors) where
     expansion_here : IsExpansion (machine_in rules b) (right_in rules b) e.state x.successors
-    expansion_here =
-        subst (λ (m : Machine). IsExpansion (machine_of (rules m) b.program) (IsFindingOf (rules m) b.program) e.state
-        x.successors) own.machine
-        (subst (λ (p : Program). IsExpansion (machine_of (rules x.machine) p) (IsFindingOf (rules x.machine) p) e.state
-        x.successors) own.program
-        (subst (λ (s : State Machine Memory Place Form). IsExpansion (machine_of (rules x.machine) x.program)
-        (IsFindingOf (rules x.machine) x.program) s x.successors) (own.source e at) holds))
+    expansion_here = rw (← own.machine, ← own.program, ← own.source e at) holds
 
     labelled_here : steps ≡ map (labelled label_here) x.successors
-    labelled_here =
-        are ∙ ap (λ (m : Machine). map (labelled (label_by own_code form_code (form_of m) b.merge)) x.successors)
-        own.machine
+    labelled_here = rw (← own.machine) are
 
     pub own_steps : AreStepsOf (machine_in rules b) (right_in rules b) label_here e.state steps
     own_steps =
-        subst (λ (xs : List (Successor (List ℕ))). AreStepsOf (machine_in rules b) (right_in rules b) label_here e.state
-        xs) (sym labelled_here)
+        rw labelled_here
         (are_steps (machine_in rules b) (right_in rules b) label_here e.state x.successors expansion_here)
 
     own_successors : steps_of (machine_in rules b).step e.state steps ≡ x.successors
     own_successors =
-        ap (steps_of (machine_in rules b).step e.state) labelled_here
-        ∙ steps_back (machine_in rules b).step e.state label_here x.successors expansion_here.steps
+        rw labelled_here
+        (steps_back (machine_in rules b).step e.state label_here x.successors expansion_here.steps)
 
     -- what putting them in answers is what entering the expansion does
     pub entered_own : (new : Contents Machine (State Machine Memory Place Form)) (answer : Result Entered EnterFault)
@@ -129,18 +118,9 @@ module _ {Machine Memory Place Form : Type 0} (rules : Machine → Rules Memory 
       (number : x.key.id ≡ i) where
     pub keyed_steps : AreStepsOf (machine_in rules b) (right_in rules b) label_here e.state x.steps
     keyed_steps =
-        subst (λ (merge : Merge). AreStepsOf (machine_in rules b) (right_in rules b)
-        (label_by own_code form_code (form_of b.machine) merge) e.state x.steps) key.merge
-        (subst (λ (p : Program). AreStepsOf (machine_of (rules b.machine) p) (IsFindingOf (rules b.machine) p)
-        (label_by own_code form_code (form_of b.machine) x.key.merge) e.state x.steps) key.program
-        (subst (λ (m : Machine). AreStepsOf (machine_of (rules m) x.key.program) (IsFindingOf (rules m) x.key.program)
-        (label_by own_code form_code (form_of m) x.key.merge) e.state x.steps) key.machine
-        (expanded e.state
-        (subst (λ (m : Machine). Fits (rules m) x.key.program e.state) (sym key.machine)
-        (subst (λ (p : Program). Fits (rules b.machine) p e.state) (sym key.program) fits))
-        (ap (λ (m : Machine). label_by own_code form_code (form_of m) x.key.merge e.state) key.machine
-        ∙ ap (λ (merge : Merge). label_by own_code form_code (form_of b.machine) merge e.state) key.merge
-        ∙ key.label e (subst (λ n. At b.entries n e) (sym number) at)))))
+        rw (← key.merge, ← key.program, ← key.machine)
+        (expanded e.state (rw (key.machine, key.program) fits)
+        (rw (key.machine, key.merge) (key.label e (rw number at))))
 
     -- what putting them in answers is what entering them does
     pub entered_keyed : (new : Contents Machine (State Machine Memory Place Form)) (answer : Result Entered EnterFault)
@@ -168,9 +148,8 @@ module _ {Machine Memory Place Form : Type 0} (rules : Machine → Rules Memory 
           successors = steps_of (machine_of (rules (sym key.machine j)) (sym key.program j)).step e.state x.steps;
         } in (
           e,
-          subst (λ n. At b.entries n e) (sym number) at,
-          subst (λ n. Enters (CountsAsOne (rules b.machine) b.merge) b new n (expansion_of rules x e.state) r.entered
-              r.met) (sym number)
+          rw number at,
+          rw number
               (subst (λ (y : Steps Machine (State Machine Memory Place Form)).
               Enters (CountsAsOne (rules b.machine) b.merge) b new i y r.entered r.met) is (h e at)),
         )
@@ -192,6 +171,6 @@ module _ {Machine Memory Place Form : Type 0} (rules : Machine → Rules Memory 
       λ d there. subst (λ (ys : List (Successor (State Machine Memory Place Form))).
           IsFullFor (CountsAsOne (rules b.machine) b.merge) b ys)
           (λ j. steps_of (machine_of (rules (sym key.machine j)) (sym key.program j)).step d.state x.steps)
-          (h.1 d (subst (λ n. At b.entries n d) number there)),
+          (h.1 d (rw number at there)),
     )
     refused_keyed taken (Err OutOfMemory) h = (taken, key)

@@ -1,8 +1,9 @@
 -- The steps of a taken entry are inserted, and it is marked expanded: what follows for the book.
-use Rattle.std.proofs.Common.{◌≡◌, ℕ, zero, suc, ◌+◌, ◌-◌, ◌^◌, ◌<◌, ◌≤◌, inl, inr, Bool, true, false, cond, Some, None}
+use Rattle.std.proofs.Common.{◌≡◌, ℕ, zero, suc, ◌+◌, ◌-◌, ◌^◌, ◌<◌, ◌≤◌, inl, inr, Bool, true, false, Some, None}
 use Rattle.std.proofs.Common.{IsSome, Option, List, [], ◌∷◌, ◌++◌, length, map, refl, sym, ap, ◌∙◌, arith, slice_get}
 use Rattle.std.proofs.Common.{subst, true≢false}
 use Rattle.std.specs.List.{All}
+use Rattle.std.proofs.lemmas.Bool.{cond_both}
 use Rattle.std.specs.Prelude.{unwrap_or}
 use Rattle.std.proofs.Math.ListN.{length-map}
 use Rattle.tree_machine.specs.Rules.{Rules}
@@ -58,19 +59,14 @@ module _ {S : Type 0} (m : StepMachine S) (same : S → S → Bool) (Same : S �
       → AreNew Same known xs (unknown same known xs)
   are_new known fit [] fits = refl
   are_new known fit (x ∷ xs) fits =
-      by (knows same known x.state) refl (are_new known fit xs (λ k. fits (suc k)))
-      (are_new (known ++ x.state ∷ []) (fit_more known fit x.state (fits 0 x refl)) xs (λ k. fits (suc k)))
-    where
-      by : (b : Bool) → knows same known x.state ≡ b → AreNew Same known xs (unknown same known xs)
-          → AreNew Same (known ++ x.state ∷ []) xs (unknown same (known ++ x.state ∷ []) xs)
-          → AreNew Same known (x ∷ xs)
-          (cond b (unknown same known xs) (x ∷ unknown same (known ++ x.state ∷ []) xs))
-      by true h here there = inl (knows_by known fit x.state (fits 0 x refl) h, here)
-      by false h here there =
-          inr (
-            knows_not known fit x.state (fits 0 x refl) h,
-            (unknown same (known ++ x.state ∷ []) xs, refl, there),
-          )
+      let rest = unknown same (known ++ x.state ∷ []) xs in
+      let more = fit_more known fit x.state (fits 0 x refl) in
+      cond_both (knows same known x.state) (unknown same known xs) (x ∷ rest) (AreNew Same known (x ∷ xs))
+      (λ h. inl (knows_by known fit x.state (fits 0 x refl) h, are_new known fit xs (λ k. fits (suc k))))
+      (λ h. inr (
+        knows_not known fit x.state (fits 0 x refl) h,
+        (rest, refl, are_new (known ++ x.state ∷ []) more xs (λ k. fits (suc k))),
+      ))
 
 -- steps that lead somewhere are those of enabled threads
 pub steps_enabled : {S : Type 0} (step : S → ℕ → Option S) (s : S) (xs : List (Successor (List ℕ)))
@@ -192,8 +188,7 @@ module _ {Machine Memory Place Form : Type 0} {rules : Machine → Rules Memory 
               machine = refl;
               program = refl;
               source =
-                  (λ d there. let same_entry : e ≡ d = (let u : slice_get b.entries i ≡ Some e = at in
-                  let v : slice_get b.entries i ≡ Some d = there in cc) in
+                  (λ d there. let same_entry : e ≡ d = cc (at, there) in
                   ap (λ (x : Entry (State Machine Memory Place Form)). x.state) same_entry);
             };
             added = news;

@@ -91,8 +91,7 @@ module _ {S A : Type 0} where
         | inl l ↦ so_far k q l
         | inr r ↦ (let same : p ≡ q = single r.0 q r.2 in (
           e,
-          (let w : q.0 ≡ i = sym (ap (λ (x : ℕ × Arc S A). x.0) same) ∙ number in
-              ap (λ n. slice_get es n) w ∙ at),
+          (let w : q.0 ≡ i = sym (ap (λ (x : ℕ × Arc S A). x.0) same) ∙ number in rw w at),
           state ∙ ap (λ (x : ℕ × Arc S A). x.1.value) same,
         ))
       ]
@@ -200,8 +199,7 @@ module _ {S : Type 0} (steps : S → ℕ) where
       let w : a + n ≤ length es = range.within in
       let here = get_at (with_marks es (range_with_len a n) Taken) a (omega arith) in
       let was = at-range n es a Taken a here.0 here.1 in
-      let same : was.0 ≡ d = (let u : slice_get es a ≡ Some was.0 = was.1 in let v : slice_get es a ≡ Some d = at_a in
-      cc) in
+      let same : was.0 ≡ d = cc (was.1, at_a) in
       let steps_here : steps here.0.state ≡ steps d.state = ap steps (was.2 ∙ ap (λ (x : Entry S). x.state) same) in
       let left : here.0.mark ≢ Expanded = (elim was.3 [
         | inl r ↦ (λ (q : here.0.mark ≡ Expanded). let t : here.0.mark ≡ Taken = r.2 in cc)
@@ -291,47 +289,28 @@ module _ {S : Type 0} (m : StepMachine S) (same : S → S → Bool) (right : S �
       → ((i : ℕ) (e : Entry S) → At vs i e → end ≤ i → k < m.steps e.state) → end ≤ length vs
       → IsLayerAt m.steps es a end
   layer_at es vs view a next first above end k at below beyond within =
-      let first' : position (λ (r : Entry S). is_open r.mark) es ≡ Some a =
-      ap (position (λ (r : Entry S). is_open r.mark)) view ∙ first in
-      let next' : (e : Entry S) × IsNext m.steps es a e =
-      subst (λ (ws : List (Entry S)). (e : Entry S) × IsNext m.steps ws a e) (sym view) next in
-      let above' : IsOpenFrom es a = subst (λ (ws : List (Entry S)). IsOpenFrom ws a) (sym view) above in
-      let below' : (i : ℕ) (e : Entry S) → At es i e → i < end
-      → m.steps e.state ≤ k =
-      subst (λ (ws : List (Entry S)). (i : ℕ) (e : Entry S) → At ws i e → i < end → m.steps e.state ≤ k)
-      (sym view) below in
-      let beyond' : (i : ℕ) (e : Entry S) → At es i e → end ≤ i
-      → k < m.steps e.state =
-      subst (λ (ws : List (Entry S)). (i : ℕ) (e : Entry S) → At ws i e → end ≤ i → k < m.steps e.state)
-      (sym view) beyond in
-      let same_entry : next'.0 ≡ at.0 = (let u : slice_get es a ≡ Some next'.0 = next'.1.entry in
-      let v : slice_get es a ≡ Some at.0 = at.1 in cc) in
-      let steps_are : m.steps next'.0.state ≡ k = ap (λ (x : Entry S). m.steps x.state) same_entry ∙ at.2 in
-      let is_some : a
-      < end = (elim (cases_lt a end) [
+      let same_entry : next.0 ≡ at.0 = cc (next.1.entry, at.1, view) in
+      let steps_are : m.steps next.0.state ≡ k = rw same_entry at.2 in
+      let is_some : a < end = (elim (cases_lt a end) [
         | inl l ↦ l
-        | inr le
-            ↦ absurd (let q : k < m.steps next'.0.state = beyond' a next'.0 next'.1.entry le in omega arith)
+        | inr le ↦ absurd (let q : k < m.steps next.0.state = beyond a next.0 next.1.entry le in omega arith)
       ]) in
-      let l : length es ≡ length vs = ap length view in
-      record {
-        entry = next'.0;
-        there = next'.1.entry;
+      rw view (record {
+        entry = next.0;
+        there = next.1.entry;
         some = is_some;
         range = record {
-          below = (λ i d at
-              less. λ (q : d.mark ≡ Open). true≢false
-              (sym (open_passes d.mark q) ∙ (first_passes (λ (r : Entry S). is_open r.mark) es a first').3 i d less
-              at));
-          are_open = (λ i d at ge less. above' i d at ge);
+          below = (λ i d at less. λ (q : d.mark ≡ Open). true≢false (sym (open_passes d.mark q)
+              ∙ (first_passes (λ (r : Entry S). is_open r.mark) vs a first).3 i d less at));
+          are_open = (λ i d at ge less. above i d at ge);
           fewest = (λ i j d f at ge less there left.
-              let p : m.steps d.state ≤ k = below' i d at (omega arith) in
-              let q : m.steps next'.0.state ≤ m.steps f.state = next'.1.fewest j f there left in omega arith);
+              let p : m.steps d.state ≤ k = below i d at (omega arith) in
+              let q : m.steps next.0.state ≤ m.steps f.state = next.1.fewest j f there left in omega arith);
           within = omega arith;
         };
-        later = (λ i e at ge. let q : k < m.steps e.state = beyond' i e at (omega arith) in omega arith);
-        within = omega arith;
-      }
+        later = (λ i e at ge. let q : k < m.steps e.state = beyond i e at (omega arith) in omega arith);
+        within = within;
+      })
 
   -- what is so of the state of each entry is so of each state in a range of them
   pub so_of_range : {A : Type 0} (P : S → Type 0) (es : List (Entry S)) (range : List (ℕ × Arc S A))

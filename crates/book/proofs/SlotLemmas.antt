@@ -57,28 +57,17 @@ take-front (x ∷ xs) ys = ap (λ zs. x ∷ zs) (take-front xs ys)
 -- what stood in front before something was put behind it still does
 pub take_kept : {X : Type 0} (old mid new rest : List X) → take (length old) mid ≡ old → new ≡ mid ++ rest
     → take (length old) new ≡ old
-take_kept {X} [] mid new rest h e = none new
-  where
-    none : (xs : List X) → take 0 xs ≡ []
-    none [] = refl
-    none (x ∷ xs) = refl
-take_kept (x ∷ old) [] new rest h e = absurd (let q : [] ≡ x ∷ old = h in cc)
-take_kept (x ∷ old) (y ∷ mid) new rest h e =
-    let q : y ∷ take (length old) mid ≡ x ∷ old = h in
-    let head : y ≡ x = cc in
-    let tail : take (length old) mid ≡ old = cc in
-    ap (take (suc (length old))) e ∙ ap (λ xs. y ∷ xs) (take_kept old mid (mid ++ rest) rest tail refl)
-    ∙ ap (λ z. z ∷ old) head
+take_kept old mid new rest h e =
+    rw (e, ← take-append-drop (length old) mid, h, append_assoc)
+    (take-front old (drop (length old) mid ++ rest))
 
 -- and it is found there
 pub stood_there : {X : Type 0} (old new : List X) (i : ℕ) (x : X) → take (length old) new ≡ old → i < length old
     → slice_get new i ≡ Some x → slice_get old i ≡ Some x
 stood_there {X} old new i x kept less at =
-    let back : take (length old) new ++ drop (length old) new ≡ new = take-append-drop (length old) new in
-    let whole : old ++ drop (length old) new ≡ new =
-    ap (λ (xs : List X). xs ++ drop (length old) new) (sym kept) ∙ back in
-    let there : slice_get (old ++ drop (length old) new) i ≡ Some x =
-    ap (λ (xs : List X). slice_get xs i) whole ∙ at in
+    let back : old ++ drop (length old) new ≡ new =
+    ap (λ (xs : List X). xs ++ drop (length old) new) (sym kept) ∙ take-append-drop (length old) new in
+    let there : slice_get (old ++ drop (length old) new) i ≡ Some x = rw back at in
     elim (get-append_cases old (drop (length old) new) i x there) [
       | inl l ↦ l
       | inr r ↦ absurd (omega (arith, r.1))

@@ -1,6 +1,6 @@
 -- Each kind of step keeps the rule.
 use Rattle.std.proofs.Common.{◌≡◌, ℕ, zero, suc, ◌+◌, ◌-◌, ◌%◌, ◌^◌, ◌<◌, ◌≤◌, List, [], ◌∷◌, ◌++◌, length, get_or, set}
-use Rattle.std.proofs.Common.{min, All, IsPermutation, sym, refl, ap, ◌∙◌, subst, arith, append_assoc, length-append}
+use Rattle.std.proofs.Common.{min, All, IsPermutation, sym, refl, ap, ◌∙◌, add-one, arith, append_assoc, length-append}
 use Rattle.std.specs.List.{sum_by, range_with_len}
 use Rattle.std.proofs.lemmas.List.{set_comm, append-nil, get_or_append_left, get_or-append-add, length-set}
 use Rattle.std.proofs.lemmas.List.{get_or-set_same, set-set}
@@ -37,9 +37,7 @@ module _ {A : Type 0} where
 pub total_set : (f : Draws → ℕ) (views : List Draws) (id : ℕ) (v w : Draws) → get_elem? views id ≡ some v
     → sum_by f (set views id w) + f v ≡ sum_by f views + f w
 total_set f views id v w at =
-    let e = sum_by-set f views id w v (at_below views id v at) in
-    let i : f (get_or views id v) ≡ f v = ap f (at_is views id v at) in
-    omega (arith, e, i)
+    omega (arith, sum_by-set f views id w v (at_below views id v at), ap f (at_is views id v at))
 
 -- one list grows at its end
 pub drawn_more : (views : List Draws) (id : ℕ) (v w : Draws) (more : List ℕ) → get_elem? views id ≡ some v
@@ -47,28 +45,20 @@ pub drawn_more : (views : List Draws) (id : ℕ) (v w : Draws) (more : List ℕ)
     → IsPermutation (places_of views ++ more) (places_of (set views id w))
 drawn_more [] id v w more at is = absurd (some-ne-none v (sym at))
 drawn_more (u ∷ us) zero v w more at is =
-    let P : List ℕ → Type 0 = λ l. IsPermutation ((u.places ++ places_of us) ++ more) (l ++ places_of us) in
-    let here : u.places ++ more ≡ w.places = ap (λ (x : Draws). x.places ++ more) (some-injective u v at) ∙ sym is in
-    subst P here
-    (rw append_assoc
-    (rw append_assoc
-    (IsPermutation-append_right u.places (places_of us ++ more) (more ++ places_of us)
-    (IsPermutation-append_comm (places_of us) more))))
+    let here : w.places ≡ u.places ++ more = cc (some-injective u v at, is) in
+    rw here (simp append_assoc
+    (IsPermutation-append_right u.places _ _ (IsPermutation-append_comm (places_of us) more)))
 drawn_more (u ∷ us) (suc id) v w more at is =
-    rw append_assoc
-    (IsPermutation-append_right u.places (places_of us ++ more) (places_of (set us id w))
-    (drawn_more us id v w more at is))
+    rw append_assoc (IsPermutation-append_right u.places _ _ (drawn_more us id v w more at is))
 
 below_more : (a n : ℕ) → range_with_len a (suc n) ≡ range_with_len a n ++ (a + n) ∷ []
 below_more a zero = ap (λ (k : ℕ). k ∷ []) (omega arith)
 below_more a (suc n) =
     ap (λ (l : List ℕ). a ∷ l) (below_more (a + 1) n ∙ ap (λ (k : ℕ). range_with_len (a + 1) n ++ k ∷ []) (omega arith))
 
+-- one more number is below the next
 pub below_next : (n : ℕ) → below (n + 1) ≡ below n ++ n ∷ []
-below_next n = rw add-one' (below_more 0 n ∙ ap (λ (k : ℕ). below n ++ k ∷ []) (omega arith))
-  where
-    add-one' : n + 1 ≡ suc n
-    add-one' = omega arith
+below_next n = rw add-one (below_more 0 n ∙ ap (λ (k : ℕ). below n ++ k ∷ []) (omega arith))
 
 spent_at_most : (size : Size) (views : List Draws) → All (FitsCounter size) views → spent_of views ≤ seats_of views
 spent_at_most size [] h = omega arith
@@ -99,18 +89,18 @@ drawn_length size word views h = length_permutation (below (min word size.len)) 
     ∙ length-range_with_len 0 (min word size.len)
 
 All-left : (P : ℕ → Type 0) (xs ys : List ℕ) → All P (xs ++ ys) → All P xs
-All-left P xs ys h k d lt = subst P (get_or_append_left xs ys d k lt) (h k d (omega (arith, length-append xs ys)))
+All-left P xs ys h k d lt = rw (← get_or_append_left xs ys d k lt) (h k d (omega (arith, length-append xs ys)))
 
 All-right : (P : ℕ → Type 0) (xs ys : List ℕ) → All P (xs ++ ys) → All P ys
 All-right P xs ys h k d lt =
-    subst P (get_or-append-add xs ys k d) (h (length xs + k) d (omega (arith, length-append xs ys)))
+    rw (← get_or-append-add xs ys k d) (h (length xs + k) d (omega (arith, length-append xs ys)))
 
 -- what holds of all places holds of those of one seat
 places_of_one : (P : ℕ → Type 0) (views : List Draws) (id : ℕ) (v : Draws) → get_elem? views id ≡ some v
     → All P (places_of views) → All P v.places
 places_of_one P [] id v at h = absurd (some-ne-none v (sym at))
 places_of_one P (u ∷ us) zero v at h =
-    subst (λ (x : Draws). All P x.places) (some-injective u v at) (All-left P u.places (places_of us) h)
+    rw (some-injective u v at) at (All-left P u.places (places_of us) h)
 places_of_one P (u ∷ us) (suc id) v at h = places_of_one P us id v at (All-right P u.places (places_of us) h)
 
 below_all : (a n m : ℕ) → a + n ≤ m → All (λ x. x < m) (range_with_len a n)
@@ -125,28 +115,27 @@ drawn_below size word views h =
     All-permutation (λ x. x < word) (below (min word size.len)) (places_of views) h.drawn
     (below_all 0 (min word size.len) word (omega arith))
 
+fits_of : (size : Size) (views : List Draws) (id : ℕ) (v : Draws) → All (FitsCounter size) views
+    → get_elem? views id ≡ some v → FitsCounter size v
+fits_of size views id v h at =
+    rw (at_is views id v at) at (All-get_or (FitsCounter size) views id v (at_below views id v at) h)
+
 -- the rule after a draw that finds a place
 place_drawn : (size : Size) (n : ℕ) (views : List Draws) (id : ℕ) (v : Draws) → ClaimsHold size n views
     → get_elem? views id ≡ some v → v.spent < v.seats → n < size.len
     → ClaimsHold size (n + 1) (set views id (draws v.seats (v.places ++ n ∷ []) v.spent v.size))
 place_drawn size n views id v h at less lt =
     let w : Draws = draws v.seats (v.places ++ n ∷ []) v.spent v.size in
-    let mine : FitsCounter size v =
-    subst (FitsCounter size) (at_is views id v at)
-    (All-get_or (FitsCounter size) views id v (at_below views id v at) h.fits) in
+    let mine = fits_of size views id v h.fits at in
     let more = drawn_more views id v w (n ∷ []) at refl in
     let grown : below (min (n + 1) size.len) ≡ below (min n size.len) ++ n ∷ [] =
     (let a : min (n + 1) size.len ≡ n + 1 = omega arith in
-    let b : min n size.len ≡ n = omega arith in
-    ap below a ∙ below_next n ∙ ap (λ k. below k ++ n ∷ []) (sym b)) in
+    let b : min n size.len ≡ n = omega arith in rw (a, b) (below_next n)) in
     let s = total_set (λ (u : Draws). u.spent) views id v w at in
     let p = total_set (λ (u : Draws). u.seats) views id v w at in
-    let l = length_permutation (places_of views ++ n ∷ []) (places_of (set views id w)) more in
+    let l = length_permutation _ _ more in
     record {
-      drawn = subst (λ (xs : List ℕ). IsPermutation xs (places_of (set views id w))) (sym grown)
-          (IsPermutation-trans (below (min n size.len) ++ n ∷ []) (places_of views ++ n ∷ [])
-          (places_of (set views id w))
-          (IsPermutation-append_left (n ∷ []) (below (min n size.len)) (places_of views) h.drawn) more);
+      drawn = rw grown (IsPermutation-trans _ _ _ (IsPermutation-append_left (n ∷ []) _ _ h.drawn) more);
       counted = omega (arith, s, l, length-append (places_of views) (n ∷ []), h.counted);
       seats = omega (arith, p, h.seats);
       fits = All-set (FitsCounter size) views id w
@@ -159,20 +148,15 @@ none_drawn : (size : Size) (n : ℕ) (views : List Draws) (id : ℕ) (v : Draws)
     → ClaimsHold size (n + 1) (set views id (draws v.seats v.places (v.spent + 1) v.size))
 none_drawn size n views id v h at less le =
     let w : Draws = draws v.seats v.places (v.spent + 1) v.size in
-    let mine : FitsCounter size v =
-    subst (FitsCounter size) (at_is views id v at)
-    (All-get_or (FitsCounter size) views id v (at_below views id v at) h.fits) in
-    let more = drawn_more views id v w [] at (sym (append-nil v.places)) in
+    let mine = fits_of size views id v h.fits at in
+    let more = simp append-nil at (drawn_more views id v w [] at (sym (append-nil v.places))) in
     let same : min (n + 1) size.len ≡ min n size.len = omega arith in
     let s = total_set (λ (u : Draws). u.spent) views id v w at in
     let p = total_set (λ (u : Draws). u.seats) views id v w at in
-    let l = length_permutation (places_of views ++ []) (places_of (set views id w)) more in
+    let l = length_permutation _ _ more in
     record {
-      drawn = subst (λ (k : ℕ). IsPermutation (below k) (places_of (set views id w))) (sym same)
-          (IsPermutation-trans (below (min n size.len)) (places_of views ++ []) (places_of (set views id w))
-          (subst (λ (xs : List ℕ). IsPermutation (below (min n size.len)) xs) (sym (append-nil (places_of views)))
-          h.drawn) more);
-      counted = omega (arith, s, l, ap length (append-nil (places_of views)), h.counted);
+      drawn = rw same (IsPermutation-trans _ _ _ h.drawn more);
+      counted = omega (arith, s, l, h.counted);
       seats = omega (arith, p, h.seats);
       fits = All-set (FitsCounter size) views id w
           (record { stated = omega arith; idle = λ e. absurd (omega arith); knows = mine.knows }) h.fits;
@@ -201,9 +185,7 @@ kept_after size room id v w s kept at less h =
     let n : ℕ = get_or s.words 0 0 in
     let there : 0 < length s.words = omega (arith, kept.0) in (
       length-set s.words 0 ((n + 1) % 2 ^ 64) ∙ kept.0,
-      subst (λ (k : ℕ). ClaimsHold size k (set s.views id w))
-          (sym (get_or-set_same s.words 0 ((n + 1) % 2 ^ 64) 0 there ∙ no_wrap size room n s.views id v kept.1 at less))
-          h,
+      rw (get_or-set_same s.words 0 ((n + 1) % 2 ^ 64) 0 there ∙ no_wrap size room n s.views id v kept.1 at less) h,
     )
 
 pub draws_kept : (size : Size) → size.len + size.seats < 2 ^ 64 → (slots id : ℕ) (v : Draws) (c : List (ℕ × Unit {0}))
@@ -241,11 +223,6 @@ draws_kept size room slots id v c less knows s kept homes at small = go (dec_lt 
           ),
         )
 
-fits_of : (size : Size) (views : List Draws) (id : ℕ) (v : Draws) → All (FitsCounter size) views
-    → get_elem? views id ≡ some v → FitsCounter size v
-fits_of size views id v h at =
-    subst (FitsCounter size) (at_is views id v at) (All-get_or (FitsCounter size) views id v (at_below views id v at) h)
-
 -- one seat is cut off a seat
 pub cut_kept : (size : Size) (id : ℕ) (v : Draws) → 1 < v.seats → v.spent ≡ 0 → v.size ≡ size
     → Splits (TableHolds size) id v (draws (v.seats - 1) v.places v.spent v.size) (fresh 1 v.size)
@@ -255,23 +232,18 @@ cut_kept size id v two none_fits knows s kept at =
     let l : Draws = draws (v.seats - 1) v.places v.spent v.size in
     let r : Draws = fresh 1 v.size in
     let views' : List Draws = set views id l in
-    let more = drawn_more views id v l [] at (sym (append-nil v.places)) in
+    let more = simp append-nil at (drawn_more views id v l [] at (sym (append-nil v.places))) in
     let same : places_of (views' ++ r ∷ []) ≡ places_of views' =
     flat_map-append (λ (u : Draws). u.places) views' (r ∷ []) ∙ append-nil (places_of views') in
-    let all =
-    IsPermutation-trans (below (min (get_or s.words 0 0) size.len)) (places_of views ++ []) (places_of views')
-    (subst (λ (xs : List ℕ). IsPermutation (below (min (get_or s.words 0 0) size.len)) xs)
-    (sym (append-nil (places_of views))) h.drawn) more in
-    let len = length_permutation (places_of views ++ []) (places_of views') more in
+    let len = length_permutation _ _ more in
     let spent = total_set (λ (u : Draws). u.spent) views id v l at in
     let seats = total_set (λ (u : Draws). u.seats) views id v l at in
     let spent' = sum_by_push (λ (u : Draws). u.spent) views' r in
     let seats' = sum_by_push (λ (u : Draws). u.seats) views' r in (
       kept.0,
       record {
-        drawn = subst (λ (xs : List ℕ). IsPermutation (below (min (get_or s.words 0 0) size.len)) xs) (sym same) all;
-        counted =
-            omega (arith, h.counted, spent, spent', len, ap length (append-nil (places_of views)), ap length same);
+        drawn = rw same (IsPermutation-trans _ _ _ h.drawn more);
+        counted = omega (arith, h.counted, spent, spent', len, ap length same);
         seats = omega (arith, h.seats, seats, seats');
         fits = All-push (FitsCounter size) views' r
             (All-set (FitsCounter size) views id l
@@ -299,10 +271,7 @@ join_kept size id v other w knows s kept at apart at' =
     drawn_more without other spent w w.places (set_here views other spent (at_below views other w was)) refl in
     let on = drawn_more without id v both w.places mine refl in
     let moved : IsPermutation (places_of views) (places_of end) =
-    IsPermutation-trans (places_of views) (places_of without ++ w.places) (places_of end)
-    (IsPermutation-sym (places_of without ++ w.places) (places_of views)
-    (subst (λ (x : List Draws). IsPermutation (places_of without ++ w.places) (places_of x)) back away))
-    (subst (λ (x : List Draws). IsPermutation (places_of without ++ w.places) (places_of x)) same on) in
+    IsPermutation-trans _ _ _ (IsPermutation-sym _ _ (rw back at away)) (rw same at on) in
     let fv = fits_of size views id v h.fits at in
     let fw = fits_of size views other w h.fits was in
     let s1 = total_set (λ (u : Draws). u.spent) views id v both at in
@@ -311,9 +280,8 @@ join_kept size id v other w knows s kept at apart at' =
     let p2 = total_set (λ (u : Draws). u.seats) (set views id both) other w spent at' in (
       kept.0,
       record {
-        drawn = IsPermutation-trans (below (min (get_or s.words 0 0) size.len)) (places_of views)
-            (places_of end) h.drawn moved;
-        counted = omega (arith, h.counted, s1, s2, length_permutation (places_of views) (places_of end) moved);
+        drawn = IsPermutation-trans _ _ _ h.drawn moved;
+        counted = omega (arith, h.counted, s1, s2, length_permutation _ _ moved);
         seats = omega (arith, h.seats, p1, p2);
         fits = All-set (FitsCounter size) (set views id both) other spent
             (record { stated = omega arith; idle = λ _. refl; knows = λ some_part. absurd (omega arith) })
@@ -371,7 +339,7 @@ ends size id v s seen all =
     let n : ℕ = get_or s.words 0 0 in
     let whole = alone size s.views id v h.fits seen.1 (h.seats ∙ sym all) in
     record {
-      drawn = subst (λ (xs : List ℕ). IsPermutation (below (min n size.len)) xs) whole.0 h.drawn;
+      drawn = rw whole.0 at h.drawn;
       stated = omega (arith, h.counted, drawn_length size n s.views h, whole.1);
     }
 
@@ -379,5 +347,4 @@ ends size id v s seen all =
 pub ends_at : (key size : Size) (id : ℕ) (v : Draws) (s : State (Unit {0}) Draws) (word : ℕ)
     → Seen (TableHolds key) id v s → key ≡ size → v.seats ≡ size.seats → get_or s.words 0 0 ≡ word → Ended size word v
 ends_at key size id v s word seen is all read =
-    subst (λ (k : Size). Ended k word v) is
-    (subst (λ (n : ℕ). Ended key n v) read (ends key id v s seen (all ∙ ap (λ (k : Size). k.seats) (sym is))))
+    rw (← is, ← read) (ends key id v s seen (rw is all))

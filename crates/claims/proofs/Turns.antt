@@ -1,6 +1,6 @@
 -- The steps of the loops over seats, and what the last word says.
 use Rattle.std.proofs.Common.{◌≡◌, ℕ, ◌+◌, ◌-◌, List, [], ◌∷◌, ◌++◌, length, get_or, All, IsPermutation, sym, refl, ap}
-use Rattle.std.proofs.Common.{◌∙◌, subst, arith, append_assoc}
+use Rattle.std.proofs.Common.{◌∙◌, arith, append_assoc}
 use Rattle.std.proofs.lemmas.List.{append-nil}
 use Rattle.std.proofs.lemmas.List.Concat.{flat_map-append}
 use Rattle.std.proofs.lemmas.List.Sums.{sum_by_push, sum_by-cons}
@@ -25,15 +25,9 @@ pub more_places : (all left : List ℕ) (seats rest : List Seated) (s : Seated) 
     → IsPermutation all (places_drawn seats ++ left) → IsPermutation all (places_drawn rest ++ (left ++ s.drew.places))
 more_places all left seats rest s is h =
     let last : places_drawn seats ≡ places_drawn rest ++ s.drew.places =
-    ap places_drawn is ∙ flat_map-append (λ (x : Seated). x.drew.places) rest (s ∷ [])
-    ∙ ap (λ l. places_drawn rest ++ l) (append-nil s.drew.places) in
-    let h' : IsPermutation all (places_drawn rest ++ (s.drew.places ++ left)) =
-    subst (λ (l : List ℕ). IsPermutation all l)
-    (ap (λ (l : List ℕ). l ++ left) last ∙ append_assoc (places_drawn rest) s.drew.places left) h in
-    IsPermutation-trans all (places_drawn rest ++ (s.drew.places ++ left))
-    (places_drawn rest ++ (left ++ s.drew.places)) h'
-    (IsPermutation-append_right (places_drawn rest) (s.drew.places ++ left) (left ++ s.drew.places)
-    (IsPermutation-append_comm s.drew.places left))
+    rw is (simp append-nil at (flat_map-append (λ (x : Seated). x.drew.places) rest (s ∷ []))) in
+    IsPermutation-trans _ _ _ (rw (last, append_assoc) at h)
+    (IsPermutation-append_right (places_drawn rest) _ _ (IsPermutation-append_comm s.drew.places left))
 
 -- without the last seat
 pub fewer_spent : (seats rest : List Seated) (s : Seated) → seats ≡ rest ++ s ∷ []

@@ -1,6 +1,6 @@
 -- What a test that decides which states count as one finds new is what is new.
-use Rattle.std.proofs.Common.{◌≡◌, ℕ, suc, ◌+◌, ◌<◌, inl, inr, true, false, cond, None, Some, List, [], ◌∷◌, ◌++◌}
-use Rattle.std.proofs.Common.{length, map, refl, sym, ap, ◌∙◌, slice_get, subst}
+use Rattle.std.proofs.Common.{◌≡◌, ℕ, suc, ◌+◌, ◌<◌, inl, inr, true, false, Some, List, [], ◌∷◌, ◌++◌}
+use Rattle.std.proofs.Common.{length, map, refl, sym, ap, ◌∙◌, slice_get}
 use Rattle.std.proofs.lemmas.Bool.{cases_Bool, true≢false}
 use Rattle.tree_machine.proofs.Lists.{get-append_cases}
 use Rattle.book.specs.declared.successor.Successor.{Successor}
@@ -12,7 +12,7 @@ use Rattle.book.specs.Law.{IsExpansion, IsLawfulBook}
 use Rattle.book.specs.Unknown.{knows, unknown, with_successors}
 use Rattle.book.proofs.Unknown.{at-states, get-cons_cases, list_any-false, list_any-true}
 
-module _ {S : Type 0} (m : StepMachine S) (Same : S → S → Type 0) (test : IsDecided m Same) where
+module _ {S : Type 0} {m : StepMachine S} {Same : S → S → Type 0} (test : IsDecided m Same) where
   -- every one of the states fits
   abbrev AllFit : List S → Type 0
   AllFit known = (k : ℕ) (s : S) → slice_get known k ≡ Some s → m.Fits s
@@ -44,8 +44,8 @@ module _ {S : Type 0} (m : StepMachine S) (Same : S → S → Type 0) (test : Is
       elim (get-append_cases known (s ∷ []) k r at) [
         | inl l ↦ fit k r l
         | inr n ↦ elim (get-cons_cases s [] n.0 r n.2) [
-          | inl here ↦ subst (λ (v : S). m.Fits v) here.1 fits
-          | inr past ↦ absurd (let q : None ≡ Some r = past.2 in cc)
+          | inl here ↦ rw here.1 at fits
+          | inr past ↦ absurd (cc past.2)
         ]
       ]
 
@@ -53,39 +53,35 @@ module _ {S : Type 0} (m : StepMachine S) (Same : S → S → Type 0) (test : Is
       → AreNew Same known xs added → added ≡ unknown test.0 known xs
   unknown_of known [] added fit fits new = new
   unknown_of known (x ∷ xs) added fit fits (inl old) =
-      unknown_of known xs added fit (λ k y at. fits (suc k) y at) old.1
-      ∙ sym (ap (λ b. cond b (unknown test.0 known xs) (x ∷ unknown test.0 (known ++ x.state ∷ []) xs))
-      (is_known known x.state fit (fits 0 x refl) old.0))
+      rw (is_known known x.state fit (fits 0 x refl) old.0)
+      (unknown_of known xs added fit (λ k y at. fits (suc k) y at) old.1)
   unknown_of known (x ∷ xs) added fit fits (inr new) =
-      new.1.1
-      ∙ ap (λ rest. x ∷ rest)
+      rw (is_unknown known x.state fit (fits 0 x refl) new.0)
+      (new.1.1 ∙ ap (λ rest. x ∷ rest)
       (unknown_of (known ++ x.state ∷ []) xs new.1.0 (one_more_fits known x.state fit (fits 0 x refl))
-      (λ k y at. fits (suc k) y at) new.1.2)
-      ∙ sym (ap (λ b. cond b (unknown test.0 known xs) (x ∷ unknown test.0 (known ++ x.state ∷ []) xs))
-      (is_unknown known x.state fit (fits 0 x refl) new.0))
+      (λ k y at. fits (suc k) y at) new.1.2))
 
-  module _ {X : Type 0} (right : S → Finding → Type 0) (b : Contents X S)
+  module _ {X : Type 0} {right : S → Finding → Type 0} {b : Contents X S}
       (law : IsLawfulBook m (AreOneBy test.0) right b) where
     entries_fit : AllFit (states b.entries)
     entries_fit k s at =
         let e = at-states b.entries k s at in
-        subst (λ (v : S). m.Fits v) e.2 (law.law.fit k e.0 e.1)
+        rw e.2 at (law.law.fit k e.0 e.1)
 
-    module _ (s : S) (xs : List (Successor S)) (expansion : IsExpansion m right s xs) where
+    module _ {s : S} {xs : List (Successor S)} (expansion : IsExpansion m right s xs) where
       -- where the book has no room for the new ones of a state's steps, it has none by the test
       pub full_by_test : IsFullFor Same b xs
           → b.limit < length b.entries + length (unknown test.0 (states b.entries) xs)
       full_by_test full =
-          subst (λ ys. b.limit < length b.entries + length ys)
-          (unknown_of (states b.entries) xs full.0 entries_fit expansion.fit full.1) full.2
+          rw (unknown_of (states b.entries) xs full.0 entries_fit expansion.fit full.1) at full.2
 
       -- what was entered is what is new by the test
-      module _ (new : Contents X S) (i : ℕ) (x : Steps X S) (entered met : ℕ) (steps : x.successors ≡ xs)
+      module _ {new : Contents X S} {i : ℕ} {x : Steps X S} {entered met : ℕ} (steps : x.successors ≡ xs)
           (enters : Enters Same b new i x entered met) where
         added_by_test : enters.added ≡ unknown test.0 (states b.entries) xs
         added_by_test =
             unknown_of (states b.entries) xs enters.added entries_fit expansion.fit
-            (subst (λ ys. AreNew Same (states b.entries) ys enters.added) steps enters.are_new)
+            (rw steps at enters.are_new)
 
         pub entered_by_test : new.entries ≡ with_successors test.0 b.entries i xs
         entered_by_test =

@@ -1,17 +1,17 @@
 -- One more entry of a layer is taken, and its steps are entered.
-use Rattle.std.proofs.Common.{◌≡◌, ℕ, ◌+◌, ◌^◌, ◌<◌, ◌≤◌, inl, inr, Bool, List, length, map, sym, ap, ◌∙◌, arith, subst}
-use Rattle.std.proofs.Common.{slice_get, count_by, length-append}
+use Rattle.std.proofs.Common.{◌≡◌, ℕ, ◌+◌, ◌^◌, ◌<◌, ◌≤◌, inl, inr, Bool, List, length, sym, ap, ◌∙◌, arith}
+use Rattle.std.proofs.Common.{length-append}
 use Rattle.std.proofs.Math.ListN.{length-map}
 use Rattle.std.proofs.lemmas.Bool.{cases_lt}
+use Rattle.std.proofs.lemmas.List.Sums.{count_by-le-length}
 use Rattle.book.specs.declared.successor.Successor.{Successor}
 use Rattle.replay.specs.declared.finding.Finding.{Finding}
-use Rattle.book.specs.declared.entry.Mark.TheVariants.{Open, Taken, Expanded}
+use Rattle.book.specs.declared.entry.Mark.TheVariants.{Taken}
 use Rattle.replay.specs.Schedule.{AreOneBy, StepMachine, IsMachine, Merges}
-use Rattle.book.specs.Entries.{Entry, Contents, IsFullFor, Takes, is_expanded, with_mark}
+use Rattle.book.specs.Entries.{At, Entry, Contents, IsFullFor, Takes, is_expanded, states}
 use Rattle.book.specs.Unknown.{with_successors, unknown}
-use Rattle.book.specs.Entries.{opened, states}
 use Rattle.book.specs.Law.{IsLawfulBook, IsExpansion}
-use Rattle.book.specs.Layers.{GrowsFrom, IsLeftTo, IsShallow}
+use Rattle.book.specs.Layers.{IsLeftTo}
 use Rattle.book.proofs.EntryLemmas.{length-with_mark, at-with_mark}
 use Rattle.book.proofs.LawfulBooks.{met_fits}
 use Rattle.book.proofs.Growth.{IsAdvance, advances, taken_grows, taken_is, taken_count, through_grows}
@@ -20,122 +20,116 @@ use Rattle.crew.specs.Driving.{IsInLayer, IsLedgerOf}
 use Rattle.crew.specs.Reading.{IsCutAt, IsFresh}
 use Rattle.crew.proofs.Growing.{not_expanded, fresh_entered, shallow_entered}
 
-module _ {X S : Type 0} (m : StepMachine S) (same : S → S → Bool) (right : S → Finding → Type 0)
-    (machine : IsMachine m) (merges : Merges m same)
-    (b mid : Contents X S) (law : IsLawfulBook m (AreOneBy same) right mid) (i : ℕ) (s : S)
-    (takes : Takes m.steps b.entries mid.entries i s)
-    (xs : List (Successor S)) (of_state : IsExpansion m right s xs) where
-  expansion : IsExpansion m right (taken_is m.steps b.entries mid.entries i s takes).0.state xs
-  expansion = subst (λ v. IsExpansion m right v xs) (sym (taken_is m.steps b.entries mid.entries i s takes).3) of_state
+-- while layer d of book b is expanded, its entry i is taken, which makes the book mid, and xs are its steps
+pub record IsTakenUp {X S : Type 0} (m : StepMachine S) (same : S → S → Bool) (right : S → Finding → Type 0)
+    (b mid : Contents X S) (i : ℕ) (xs : List (Successor S)) (d : ℕ) : Type 0 where
+  pub machine : IsMachine m
+  pub merges : Merges m same
+  pub law : IsLawfulBook m (AreOneBy same) right mid
+  pub state : S
+  pub takes : Takes m.steps b.entries mid.entries i state
+  pub expansion : IsExpansion m right state xs
+  pub layer : IsInLayer m.steps b.entries d
+  pub left : IsLeftTo m.steps b.entries d
 
-  unexpanded : count_by (λ (r : Entry S). is_expanded r.mark) mid.entries
-      ≡ count_by (λ (r : Entry S). is_expanded r.mark) b.entries
-  unexpanded =
-      ap (count_by (λ (r : Entry S). is_expanded r.mark)) takes.after
-      ∙ (let q : count_by (λ (r : Entry S). is_expanded r.mark) (with_mark b.entries i Taken)
-      ≡ count_by (λ (r : Entry S). is_expanded r.mark) b.entries + 0 =
-      taken_count m b.entries i Taken takes.entry takes.next.entry (ap is_expanded takes.next.is_open) in omega arith)
+module _ {X S : Type 0} {m : StepMachine S} {same : S → S → Bool} {right : S → Finding → Type 0}
+    {b mid : Contents X S} {i : ℕ} {xs : List (Successor S)} {d : ℕ} (one : IsTakenUp m same right b mid i xs d) where
+  -- the entry that is taken
+  pub entry : (e : Entry S) × At mid.entries i e × (e.mark ≡ Taken) × (e.state ≡ one.state)
+  entry = taken_is m.steps b.entries mid.entries i one.state one.takes
+
+  expansion : IsExpansion m right entry.0.state xs
+  expansion = rw entry.3 one.expansion
 
   same_length : length mid.entries ≡ length b.entries
-  same_length = ap length takes.after ∙ length-with_mark b.entries i Taken
+  same_length = rw one.takes.after (length-with_mark b.entries i Taken)
 
   -- the share counts the book with the entry taken
   pub ledger_taken : mid.met ≡ b.met → (share : Share) → IsLedgerOf b share → IsLedgerOf mid share
   ledger_taken met share ledger = record {
-    expanded = ledger.expanded ∙ sym unexpanded;
+    expanded =
+        rw one.takes.after (omega (
+          arith,
+          ledger.expanded,
+          taken_count m b.entries i Taken one.takes.entry one.takes.next.entry (ap is_expanded one.takes.next.is_open),
+        ));
     entered = ledger.entered ∙ sym same_length;
     met = ledger.met ∙ sym met;
   }
 
-  module _ (d : ℕ) (layer : IsInLayer m.steps b.entries d) (left : IsLeftTo m.steps b.entries d) where
-    bounded : m.steps (taken_is m.steps b.entries mid.entries i s takes).0.state ≤ d
-    bounded =
-        let t = taken_is m.steps b.entries mid.entries i s takes in
-        let p : m.steps takes.entry.state ≤ m.steps left.1.state = takes.next.fewest left.0 left.1 left.2 left.3 in
-        let q : m.steps left.1.state ≤ d = left.4 in
-        let r : m.steps t.0.state ≡ m.steps takes.entry.state = ap m.steps (t.3 ∙ sym takes.state) in omega arith
+  bounded : m.steps entry.0.state ≤ d
+  bounded =
+      let fewest = one.takes.next.fewest one.left.0 one.left.1 one.left.2 one.left.3 in
+      omega (arith, fewest, one.left.4, ap m.steps (entry.3 ∙ sym one.takes.state))
 
-    pub advanced : (new : List (Entry S)) → new ≡ with_successors same mid.entries i xs
-        → IsAdvance m.steps b.entries new
-    advanced new is =
-        let t = taken_is m.steps b.entries mid.entries i s takes in
-        advances m same right machine merges b.entries mid.entries new i s t.0 xs takes law.law t.1 t.2 expansion is
-        layer.none_taken
+  -- one more entry is expanded
+  pub advanced : (new : List (Entry S)) → new ≡ with_successors same mid.entries i xs → IsAdvance m.steps b.entries new
+  advanced new is =
+      advances m same right one.machine one.merges b.entries mid.entries new i one.state entry.0 xs one.takes
+      one.law.law entry.1 entry.2 expansion is one.layer.none_taken
 
-    fresh_taken : IsFresh m.steps mid.entries (d + 1)
-    fresh_taken j f there deep =
-        let o = at-with_mark b.entries i Taken j f (sym (ap (λ es. slice_get es j) takes.after) ∙ there) in
-        elim o.3 [
-          | inl here ↦ not_expanded f.mark here.1
-          | inr other
-              ↦ λ marked. layer.fresh j o.0 o.1 (sym (ap m.steps o.2.state) ∙ deep)
-              (ap (λ (x : Entry S). x.mark) (sym other.1) ∙ marked)
-        ]
+  fresh_taken : IsFresh m.steps mid.entries (d + 1)
+  fresh_taken j f there deep =
+      let o = at-with_mark b.entries i Taken j f (rw one.takes.after at there) in
+      elim o.3 [
+        | inl here ↦ not_expanded f.mark here.1
+        | inr other ↦ λ marked. one.layer.fresh j o.0 o.1 (rw o.2.state at deep) (cc (other.1, marked))
+      ]
 
-    pub still_in_layer : (new : List (Entry S)) → new ≡ with_successors same mid.entries i xs → IsInLayer m.steps new d
-    still_in_layer new is =
-        let t = taken_is m.steps b.entries mid.entries i s takes in
-        let one = advanced new is in
-        record {
-          none_taken = one.none_taken;
-          through = through_grows m d b.entries new layer.through one.grows;
-          fresh = subst (λ (q : List (Entry S)). IsFresh m.steps q (d + 1)) (sym is)
-              (fresh_entered m same right machine merges mid.entries law.law i t.0 t.1 t.2 xs expansion d bounded
-              fresh_taken);
-          shallow =
-              subst (λ (q : List (Entry S)). IsShallow m.steps q (d + 1)) (sym is)
-              (shallow_entered m same right machine merges mid.entries law.law i t.0 t.1 t.2 xs expansion d bounded);
-        }
+  -- and the layer is still the one in work
+  pub still_in_layer : (new : List (Entry S)) → new ≡ with_successors same mid.entries i xs → IsInLayer m.steps new d
+  still_in_layer new is =
+      let more = advanced new is in
+      record {
+        none_taken = more.none_taken;
+        through = through_grows m d b.entries new one.layer.through more.grows;
+        fresh = rw is (fresh_entered one.machine one.merges one.law.law i entry.1 entry.2 expansion d bounded
+            fresh_taken);
+        shallow = rw is (shallow_entered one.machine one.merges one.law.law i entry.1 entry.2 expansion d bounded);
+      }
 
-    -- where there is no room for the steps, the layer is cut there
-    pub layer_cut : (Same : S → S → Type 0) → IsFullFor Same mid xs → IsCutAt m Same right mid d i
-    layer_cut Same full =
-        let t = taken_is m.steps b.entries mid.entries i s takes in
-        let state : m.steps t.0.state ≡ m.steps takes.entry.state = ap m.steps (t.3 ∙ sym takes.state) in
-        record {
-          no_room = record { entry = t.0; at = t.1; taken = t.2; successors = xs; expansion = expansion; full = full };
-          layer = elim (cases_lt (m.steps t.0.state) d) [
-            | inl l ↦ absurd (
-                let done : takes.entry.mark ≡ Expanded =
-                layer.through.done i takes.entry takes.next.entry (omega arith) in
-                let open_one : takes.entry.mark ≡ Open = takes.next.is_open in cc)
-            | inr ge ↦ (let le : m.steps t.0.state ≤ d = bounded in omega arith)
-          ];
-          through = through_grows m d b.entries mid.entries layer.through
-              (subst (λ (q : List (Entry S)). GrowsFrom m.steps b.entries q) (sym takes.after)
-              (taken_grows m b.entries i takes.entry takes.next));
-        }
+  -- where there is no room for the steps, the layer is cut there
+  pub layer_cut : (Same : S → S → Type 0) → IsFullFor Same mid xs → IsCutAt m Same right mid d i
+  layer_cut Same full = record {
+    no_room = record {
+      entry = entry.0;
+      at = entry.1;
+      taken = entry.2;
+      successors = xs;
+      expansion = expansion;
+      full = full;
+    };
+    layer = elim (cases_lt (m.steps entry.0.state) d) [
+      | inl l ↦ absurd (
+          let state = ap m.steps (entry.3 ∙ sym one.takes.state) in
+          let done =
+          one.layer.through.done i one.takes.entry one.takes.next.entry (omega (arith, state)) in
+          cc (done, one.takes.next.is_open))
+      | inr ge ↦ omega (arith, bounded)
+    ];
+    through = through_grows m d b.entries mid.entries one.layer.through
+        (rw one.takes.after (taken_grows m b.entries i one.takes.entry one.takes.next));
+  }
 
-    module _ (new : Contents X S) (entered met : ℕ) (entries : new.entries ≡ with_successors same mid.entries i xs)
-        (new_states : entered ≡ length (unknown same (states mid.entries) xs)) (each : entered + met ≡ length xs)
-        (met_in_all : new.met ≡ mid.met + met) where
-      pub met_small : mid.met + met < 2 ^ 64
-      met_small =
-          let t = taken_is m.steps b.entries mid.entries i s takes in
-          met_fits m same right machine merges mid law i t.0 t.1 t.2 xs expansion met (omega arith)
-
-      -- the share counts the steps
-      pub ledger_entered : mid.met ≡ b.met → (old share : Share) → IsLedgerOf b old
-          → share ≡ record { expanded = old.expanded + 1; entered = old.entered + entered; met = old.met + met }
-          → IsLedgerOf new share
-      ledger_entered same_met old share ledger is =
-          let one : IsAdvance m.steps b.entries new.entries = advanced new.entries entries in
-          let expanded : share.expanded ≡ old.expanded + 1 = ap (λ (q : Share). q.expanded) is in
-          let more : count_by (λ (r : Entry S). is_expanded r.mark) new.entries
-          ≡ count_by (λ (r : Entry S). is_expanded r.mark) b.entries + 1 = one.more in
-          let was : old.expanded ≡ count_by (λ (r : Entry S). is_expanded r.mark) b.entries = ledger.expanded in
-          let entered_now : share.entered ≡ old.entered + entered = ap (λ (q : Share). q.entered) is in
-          let entered_was : old.entered + 1 ≡ length b.entries = ledger.entered in
-          let met_now : share.met ≡ old.met + met = ap (λ (q : Share). q.met) is in
-          let met_was : old.met ≡ b.met = ledger.met in
-          let all : length new.entries ≡ length (with_mark mid.entries i Expanded)
-          + length (map (opened i) (unknown same (states mid.entries) xs)) =
-          ap length entries ∙ length-append (with_mark mid.entries i Expanded)
-          (map (opened i) (unknown same (states mid.entries) xs)) in
-          let fresh : length (map (opened i) (unknown same (states mid.entries) xs))
-          ≡ length (unknown same (states mid.entries) xs) =
-          length-map (unknown same (states mid.entries) xs) (opened i) in
-          let marked : length (with_mark mid.entries i Expanded) ≡ length mid.entries =
-          length-with_mark mid.entries i Expanded in
-          let taken : length mid.entries ≡ length b.entries = same_length in
-          record { expanded = omega arith; entered = omega arith; met = omega arith }
+  -- the share has room for the steps, and counts them
+  pub ledger_entered : {new : Contents X S} {entered : ℕ} (met : ℕ)
+      → new.entries ≡ with_successors same mid.entries i xs
+      → entered ≡ length (unknown same (states mid.entries) xs) → length mid.entries + entered ≤ mid.limit
+      → entered + met ≡ length xs → new.met ≡ mid.met + met → mid.met ≡ b.met
+      → (old share : Share) → IsLedgerOf b old
+      → (old.expanded + 1 < 2 ^ 64 → old.entered + entered < 2 ^ 64 → old.met + met < 2 ^ 64
+      → share ≡ record { expanded = old.expanded + 1; entered = old.entered + entered; met = old.met + met })
+      → IsLedgerOf new share
+  ledger_entered {new} {entered} met entries fresh room each met_in_all same_met old share ledger adds =
+      let few = count_by-le-length (λ (r : Entry S). is_expanded r.mark) b.entries in
+      let small =
+      met_fits m same right one.machine one.merges mid one.law i entry.0 entry.1 entry.2 xs expansion met (omega arith)
+      in
+      rw (adds (omega (arith, ledger.expanded, few, same_length, one.law.limit))
+      (omega (arith, ledger.entered, same_length, one.law.limit)) (omega (arith, ledger.met, small)))
+      (record {
+        expanded = omega (arith, ledger.expanded, (advanced new.entries entries).more);
+        entered = rw entries (simp (length-append, length-map, length-with_mark)
+            (omega (arith, ledger.entered, same_length)));
+        met = omega (arith, ledger.met);
+      })

@@ -1,7 +1,6 @@
 -- Where schedules end.
 use Rattle.std.proofs.Common.{◌≡◌, ℕ, ◌<◌, zero, suc, IfSome, IfNone, Option, Some, None, List, [], ◌∷◌, take}
-use Rattle.std.proofs.Common.{refl, sym, ap, ◌∙◌, subst}
-use Rattle.std.specs.Option.{option_and_then}
+use Rattle.std.proofs.Common.{refl}
 use Rattle.std.proofs.lemmas.Option.{option_and_then_some}
 use Rattle.sched_program.specs.Program.{Program}
 use Rattle.tree_machine.specs.Rules.{Rules}
@@ -20,11 +19,7 @@ beginning_runs m [] (suc k) s r leads stops = cc
 beginning_runs {S} m (t ∷ c) (suc k) s r leads stops =
     option_and_then_some (λ (u : S). run m u c) (m.step s t) r leads
     (λ (u : S) (first : m.step s t ≡ Some u) (rest : run m u c ≡ Some r).
-    beginning_runs m c k u r rest (ap (λ o. option_and_then (λ (v : S). run m v (take k c)) o) (sym first) ∙ stops))
-
--- a fact on the machine and the program that were given is one on the book's
-pub given_own : {X : Type 0} (P : X → Program → Type 0) (x y : X) (p q : Program) → x ≡ y → p ≡ q → P x p → P y q
-given_own P x y p q machine program h = subst (λ r. P y r) program (subst (λ z. P z p) machine h)
+    beginning_runs m c k u r rest (rw first at stops))
 
 -- a replay by a machine and a program that are the book's ends where the book's schedule does, and is not cut short
 module _ {X Memory Place Form : Type 0} (rules : X → Rules Memory Place) (b : Contents X (State X Memory Place Form))
@@ -32,22 +27,16 @@ module _ {X Memory Place Form : Type 0} (rules : X → Rules Memory Place) (b : 
     (c : List ℕ) (s : State X Memory Place Form) (leads : after (machine_in rules b) c ≡ Some s) where
   pub same_end : (r : State X Memory Place Form) → after (machine_of {Machine = X} {Form = Form} (rules x) p) c ≡ Some r
       → r ≡ s
-  same_end r ends =
-      let own : after (machine_in rules b) c ≡ Some r =
-      given_own (λ y q. after (machine_of {Machine = X} {Form = Form} (rules y) q) c ≡ Some r) x b.machine p
-      b.program machine program ends in
-      cc
+  same_end r ends = cc
 
   pub no_stop : (n : ℕ) → after (machine_of {Machine = X} {Form = Form} (rules x) p) (take n c) ≡ None → ⊥
   no_stop n stops =
-      beginning_runs (machine_in rules b) c n (machine_in rules b).start s leads
-      (given_own (λ y q. after (machine_of {Machine = X} {Form = Form} (rules y) q) (take n c) ≡ None) x b.machine p
-      b.program machine program stops)
+      beginning_runs (machine_in rules b) c n (machine_in rules b).start s leads (rw (machine, program) at stops)
 
+-- a fact on the machine, the program and the merge that were given is one on the book's
 pub given_merge : {X : Type 0} (P : X → Program → Merge → Type 0) (x y : X) (p q : Program) (k l : Merge) → x ≡ y
     → p ≡ q → k ≡ l → P x p k → P y q l
-given_merge P x y p q k l machine program merge h =
-    subst (λ r. P y q r) merge (given_own (λ z r. P z r k) x y p q machine program h)
+given_merge P x y p q k l machine program merge h = rw (← machine, ← program, ← merge) h
 
 -- what was driven can be read
 pub is_answered : (W A : Type 0) (n l : ℕ) (K : ℕ → ℕ → Type 0) → n ≡ l
@@ -55,4 +44,4 @@ pub is_answered : (W A : Type 0) (n l : ℕ) (K : ℕ → ℕ → Type 0) → n 
     → (o ≡ None → W → A) → IfSome o (λ i. (d : ℕ) → d < l → K d i → A) → A
 is_answered W A n l K is None worked cut finished stopped = finished refl worked
 is_answered W A n l K is (Some i) worked cut finished stopped =
-    stopped cut.0 (subst (λ k. cut.0 < k) is cut.1) cut.2
+    stopped cut.0 (rw is at cut.1) cut.2

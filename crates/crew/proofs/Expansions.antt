@@ -1,12 +1,12 @@
 -- Expansions of an entry's state.
-use Rattle.std.proofs.Common.{◌≡◌, ℕ, suc, Bool, true, false, cond, Some, List, [], ◌∷◌, ◌++◌, length, map, refl, sym}
-use Rattle.std.proofs.Common.{ap, ◌∙◌, slice_get, subst}
+use Rattle.std.proofs.lemmas.Bool.{cases_Bool}
+use Rattle.std.proofs.Common.{◌≡◌, ℕ, suc, inl, inr, Bool, cond, Some, List, [], ◌∷◌, ◌++◌, length, map, refl, sym}
+use Rattle.std.proofs.Common.{ap, ◌∙◌, slice_get}
 use Rattle.book.specs.declared.successor.Successor.{Successor}
 use Rattle.replay.specs.declared.finding.Finding.{Finding}
 use Rattle.tree_machine.specs.Rules.{Rules}
 use Rattle.tree_machine.specs.declared.state.State.{State}
 use Rattle.replay.specs.Schedule.{StepMachine}
-use Rattle.replay.specs.Findings.{machine_of, IsFindingOf}
 use Rattle.sched_program.specs.Program.{Program}
 use Rattle.book.specs.Entries.{At, Contents, Entry, IsOwn, Steps}
 use Rattle.book.specs.Unknown.{knows, unknown}
@@ -20,20 +20,15 @@ module _ {S : Type 0} (same : S → S → Bool) where
   count_unknown known (s ∷ rest) =
       cond (knows same known s) (count_unknown known rest) (suc (count_unknown (known ++ s ∷ []) rest))
 
-  length-cond : (b : Bool) (xs ys : List (Successor S)) → length (cond b xs ys) ≡ cond b (length xs) (length ys)
-  length-cond true xs ys = refl
-  length-cond false xs ys = refl
-
   unknown_counts : (known : List S) (xs : List (Successor S))
       → length (unknown same known xs) ≡ count_unknown known (map (λ (x : Successor S). x.state) xs)
   unfolding count_unknown
   unknown_counts known [] = refl
   unknown_counts known (x ∷ xs) =
-      length-cond (knows same known x.state) (unknown same known xs) (x ∷ unknown same (known ++ x.state ∷ []) xs)
-      ∙ ap (λ k. cond (knows same known x.state) k (suc (length (unknown same (known ++ x.state ∷ []) xs))))
-      (unknown_counts known xs)
-      ∙ ap (λ k. cond (knows same known x.state) (count_unknown known (map (λ (y : Successor S). y.state) xs)) (suc k))
-      (unknown_counts (known ++ x.state ∷ []) xs)
+      elim (cases_Bool (knows same known x.state)) [
+        | inl old ↦ rw old (unknown_counts known xs)
+        | inr new ↦ rw new (ap suc (unknown_counts (known ++ x.state ∷ []) xs))
+      ]
 
 module _ {S : Type 0} (m : StepMachine S) (s : S) where
   same_states : (xs ys : List (Successor S))
@@ -47,20 +42,18 @@ module _ {S : Type 0} (m : StepMachine S) (s : S) where
   same_states (x ∷ xs) (y ∷ ys) threads left right =
       let thread : x.thread ≡ y.thread = cc in
       let rest : map (λ (z : Successor S). z.thread) xs ≡ map (λ (z : Successor S). z.thread) ys = cc in
-      let a : m.step s x.thread ≡ Some x.state = left 0 x refl in
-      let b : m.step s y.thread ≡ Some y.state = right 0 y refl in
-      let state : x.state ≡ y.state = cc in
+      let state : x.state ≡ y.state = cc (left 0 x refl, right 0 y refl) in
       let states = same_states xs ys rest (λ k z at. left (suc k) z at) (λ k z at. right (suc k) z at) in
       cc
 
-  -- have as many states that are not known
-  pub same_unknown : (same : S → S → Bool) (right : S → Finding → Type 0) (known : List S) (xs ys : List (Successor S))
-      → IsExpansion m right s xs → IsExpansion m right s ys
-      → length (unknown same known xs) ≡ length (unknown same known ys)
-  same_unknown same right known xs ys a b =
-      unknown_counts same known xs
-      ∙ ap (count_unknown same known) (same_states xs ys (a.threads ∙ sym b.threads) a.steps b.steps)
-      ∙ sym (unknown_counts same known ys)
+-- two expansions of a state have as many states that are not known
+pub same_unknown : {S : Type 0} {m : StepMachine S} {s : S} {right : S → Finding → Type 0} {xs ys : List (Successor S)}
+    (same : S → S → Bool) (known : List S) → IsExpansion m right s xs → IsExpansion m right s ys
+    → length (unknown same known xs) ≡ length (unknown same known ys)
+same_unknown {S} {m} {s} {right} {xs} {ys} same known a b =
+    unknown_counts same known xs
+    ∙ ap (count_unknown same known) (same_states m s xs ys (a.threads ∙ sym b.threads) a.steps b.steps)
+    ∙ sym (unknown_counts same known ys)
 
 -- what an expansion holds is right for the book that it is made for
 pub expansion_in : {X Memory Place Form : Type 0} (rules : X → Rules Memory Place)
@@ -69,12 +62,7 @@ pub expansion_in : {X Memory Place Form : Type 0} (rules : X → Rules Memory Pl
     → x.machine ≡ b.machine → x.program ≡ b.program → x.source ≡ s → HoldsSteps rules x
     → IsExpansion (machine_in rules b) (right_in rules b) s x.successors
 expansion_in {X} {Memory} {Place} rules b x s machine program source holds =
-    subst (λ v. IsExpansion (machine_of (rules b.machine) b.program) (IsFindingOf (rules b.machine) b.program) v
-    x.successors) source
-    (subst (λ p. IsExpansion (machine_of (rules b.machine) p) (IsFindingOf (rules b.machine) p) x.source x.successors)
-    program
-    (subst (λ y. IsExpansion (machine_of (rules y) x.program) (IsFindingOf (rules y) x.program) x.source x.successors)
-    machine holds))
+    rw (machine, program, source) at holds
 
 -- whatever is of the machine, the program and the state of an entry is that entry's own
 pub own_of : {X S : Type 0} (b : Contents X S) (i : ℕ) (e : Entry S) → At b.entries i e → (x : X) (p : Program) (s : S)
@@ -83,7 +71,5 @@ own_of {X} {S} b i e at x p s machine program state = record {
   machine = machine;
   program = program;
   source =
-      (λ f there. let one : e ≡ f = (let u : slice_get b.entries i ≡ Some e = at in
-      let v : slice_get b.entries i ≡ Some f = there in cc) in
-      state ∙ ap (λ (v : Entry S). v.state) one);
+      (λ f there. let one : e ≡ f = cc (at, there) in rw (← one) state);
 }

@@ -1,15 +1,15 @@
 -- What the steps of one more entry show of the entries and of the number of states.
-use Rattle.std.proofs.Common.{◌≡◌, ◌≢◌, ℕ, ◌+◌, ◌<◌, ◌≤◌, inl, inr, Bool, true, Some, List, [], ◌∷◌, ◌++◌, length, map}
-use Rattle.std.proofs.Common.{sym, ap, ◌∙◌, arith, subst, slice_get, length-append, count_by, leb}
+use Rattle.std.proofs.Common.{◌≡◌, ◌≢◌, ℕ, ◌+◌, ◌<◌, ◌≤◌, inl, inr, Bool, Some, List, [], ◌∷◌, ◌++◌, length, map}
+use Rattle.std.proofs.Common.{sym, ap, ◌∙◌, arith, slice_get, length-append, leb}
 use Rattle.std.proofs.Math.ListN.{length-map}
 use Rattle.std.proofs.lemmas.List.{length_push}
 use Rattle.std.proofs.lemmas.List.Sums.{count_by-le-length}
 use Rattle.std.proofs.lemmas.Option.{slice_get_within}
-use Rattle.tree_machine.proofs.Lists.{get-append_cases}
+use Rattle.tree_machine.proofs.Lists.{get-append_cases, get-map}
 use Rattle.book.specs.declared.successor.Successor.{Successor}
 use Rattle.replay.specs.declared.finding.Finding.{Finding}
 use Rattle.book.specs.declared.entry.Mark.{Mark}
-use Rattle.book.specs.declared.entry.Mark.TheVariants.{Open, Taken, Expanded}
+use Rattle.book.specs.declared.entry.Mark.TheVariants.{Taken, Expanded}
 use Rattle.replay.specs.Schedule.{AreOneBy, StepMachine, IsMachine, Merges, IsReachableWithin}
 use Rattle.book.specs.Entries.{Entry, At, with_mark, opened, states}
 use Rattle.book.specs.Unknown.{with_successors, unknown}
@@ -23,123 +23,91 @@ use Rattle.book.proofs.Counts.{recorded, count_is, count_to_is}
 use Rattle.book.proofs.Ways.{steps_after}
 use Rattle.crew.specs.Reading.{IsFresh}
 use Rattle.crew.proofs.Crowding.{count_above}
-use Rattle.crew.proofs.Reaching.{at-map, joined_apart}
+use Rattle.crew.proofs.Reaching.{joined_apart}
 
 pub not_expanded : (k : Mark) → k ≡ Taken → k ≢ Expanded
 not_expanded k h e = let q : Taken ≡ Expanded = sym h ∙ e in cc
 
-module _ {S : Type 0} (m : StepMachine S) (same : S → S → Bool) (right : S → Finding → Type 0) (machine : IsMachine m)
-    (merges : Merges m same)
-    (es : List (Entry S)) (law : IsLawful m (AreOneBy same) right es) (i : ℕ) (d : Entry S) (at : At es i d)
-    (taken : d.mark ≡ Taken)
-    (xs : List (Successor S)) (expansion : IsExpansion m right d.state xs) (n : ℕ) (bounded : m.steps d.state ≤ n) where
-  pub no_deeper : IsShallow m.steps es (n + 1)
-  no_deeper j f there =
-      let q : m.steps f.state ≤ m.steps d.state + 1 = law.near i j d f at (not_expanded d.mark taken) there in
-      omega arith
+module _ {S : Type 0} {m : StepMachine S} {same : S → S → Bool} {right : S → Finding → Type 0} (machine : IsMachine m)
+    (merges : Merges m same) {es : List (Entry S)} (law : IsLawful m (AreOneBy same) right es) where
+  -- the new ones of an entry's steps
+  abbrev news : List (Successor S) → List (Successor S)
+  news xs = unknown same (states es) xs
 
-  new_steps : (k : ℕ) (y : Successor S) → slice_get (unknown same (states es) xs) k ≡ Some y
-      → m.step d.state y.thread ≡ Some y.state
-  new_steps k y there = let w = unknown_is m same merges (states es) xs k y there in expansion.steps w.0.0 y w.0.1
+  abbrev all_states : List (Successor S) → List S
+  all_states xs = states es ++ map (λ (x : Successor S). x.state) (news xs)
 
-  -- no entry of the next layer is expanded, if none was
-  pub fresh_entered : IsFresh m.steps es (n + 1) → IsFresh m.steps (with_successors same es i xs) (n + 1)
-  fresh_entered fresh j f there deep marked =
-      elim (get-append_cases (with_mark es i Expanded) (map (opened i) (unknown same (states es) xs)) j f there) [
-        | inl l ↦ (
-            let o = at-with_mark es i Expanded j f l in
-            elim o.3 [
-              | inl here ↦ (
-                  let p : slice_get es j ≡ Some d = subst (λ k. slice_get es k ≡ Some d) here.0 at in
-                  let e : d ≡ o.0 = (let q : slice_get es j ≡ Some o.0 = o.1 in cc) in
-                  let same_steps : m.steps f.state ≡ m.steps d.state =
-                  ap m.steps o.2.state ∙ ap (λ (x : Entry S). m.steps x.state) (sym e) in absurd (omega arith))
-              | inr other ↦ fresh j o.0 o.1 (sym (ap m.steps o.2.state) ∙ deep)
-                  (ap (λ (x : Entry S). x.mark) (sym other.1) ∙ marked)
-            ])
-        | inr r ↦ (
-            let y = at-map (opened i) (unknown same (states es) xs) r.0 f r.2 in
-            let q : Open ≡ Expanded = ap (λ (x : Entry S). x.mark) y.2 ∙ marked in cc)
-      ]
+  module _ (i : ℕ) {d : Entry S} (at : At es i d) (taken : d.mark ≡ Taken) {xs : List (Successor S)}
+      (expansion : IsExpansion m right d.state xs) (n : ℕ) (bounded : m.steps d.state ≤ n) where
+    no_deeper : IsShallow m.steps es (n + 1)
+    no_deeper j f there = omega (arith, law.near i j d f at (not_expanded d.mark taken) there)
 
-  -- no entry is deeper once the steps are entered
-  pub shallow_entered : IsShallow m.steps (with_successors same es i xs) (n + 1)
-  shallow_entered j f there =
-      elim (get-append_cases (with_mark es i Expanded) (map (opened i) (unknown same (states es) xs)) j f there) [
-        | inl l ↦ (
-            let o = at-with_mark es i Expanded j f l in
-            let q : m.steps o.0.state ≤ n + 1 = no_deeper j o.0 o.1 in
-            let p : m.steps f.state ≡ m.steps o.0.state = ap m.steps o.2.state in omega arith)
-        | inr r ↦ (
-            let y = at-map (opened i) (unknown same (states es) xs) r.0 f r.2 in
-            let up : m.steps y.0.state ≡ m.steps d.state + 1 =
-            machine.one_more d.state y.0.state y.0.thread (new_steps r.0 y.0 y.1) in
-            let p : m.steps y.0.state ≡ m.steps f.state = ap (λ (e : Entry S). m.steps e.state) y.2 in omega arith)
-      ]
+    new_steps : (k : ℕ) (y : Successor S) → slice_get (news xs) k ≡ Some y → m.step d.state y.thread ≡ Some y.state
+    new_steps k y there = let w = unknown_is m same merges (states es) xs k y there in expansion.steps w.0.0 y w.0.1
 
-  abbrev all_states : List S
-  all_states = states es ++ map (λ (x : Successor S). x.state) (unknown same (states es) xs)
+    -- no entry of the next layer is expanded, if none was
+    pub fresh_entered : IsFresh m.steps es (n + 1) → IsFresh m.steps (with_successors same es i xs) (n + 1)
+    fresh_entered fresh j f there deep marked =
+        elim (get-append_cases (with_mark es i Expanded) (map (opened i) (news xs)) j f there) [
+          | inl l ↦ (
+              let o = at-with_mark es i Expanded j f l in
+              let state : f.state ≡ o.0.state = o.2.state in
+              elim o.3 [
+                | inl here ↦ (
+                    let e : d ≡ o.0 = cc (at, here.0, o.1) in
+                    absurd (omega (arith, ap m.steps state, ap (λ (x : Entry S). m.steps x.state) e)))
+                | inr other ↦ fresh j o.0 o.1 (rw state at deep) (cc (other.1, marked))
+              ])
+          | inr r ↦ (let y = get-map (opened i) (news xs) r.0 f r.2 in cc (y.2, marked))
+        ]
 
-  all_reached : (k : ℕ) (x : S) → slice_get all_states k ≡ Some x → IsReachableWithin m (n + 1) x
-  all_reached k x there =
-      elim (get-append_cases (states es) (map (λ (x : Successor S). x.state) (unknown same (states es) xs)) k x there) [
-        | inl l ↦ (
-            let e = at-states es k x l in
-            let c = recorded m same right machine merges es law k e.0 e.1 in
-            let q : m.steps e.0.state ≤ n + 1 = no_deeper k e.0 e.1 in
-            let p : length c.0 ≡ m.steps e.0.state = c.2 in
-            (c.0, omega arith, c.1 ∙ ap Some e.2))
-        | inr r ↦ (
-            let y = at-map (λ (x : Successor S). x.state) (unknown same (states es) xs) r.0 x r.2 in
-            let c = recorded m same right machine merges es law i d at in
-            let p : length c.0 ≡ m.steps d.state = c.2 in
-            let l : length (c.0 ++ y.0.thread ∷ []) ≡ length c.0 + 1 = length_push c.0 y.0.thread in (
-              c.0 ++ y.0.thread ∷ [],
-              omega arith,
-              run_push m c.0 m.start d.state y.0.state y.0.thread c.1 (new_steps r.0 y.0 y.1) ∙ ap Some y.2,
-            ))
-      ]
+    -- no entry is deeper once the steps are entered
+    pub shallow_entered : IsShallow m.steps (with_successors same es i xs) (n + 1)
+    shallow_entered j f there =
+        elim (get-append_cases (with_mark es i Expanded) (map (opened i) (news xs)) j f there) [
+          | inl l ↦ (let o = at-with_mark es i Expanded j f l in rw o.2.state (no_deeper j o.0 o.1))
+          | inr r ↦ (
+              let y = get-map (opened i) (news xs) r.0 f r.2 in
+              let up = machine.one_more d.state y.0.state y.0.thread (new_steps r.0 y.0 y.1) in
+              rw y.2 (omega (arith, up)))
+        ]
 
-  all_apart : (j k : ℕ) (x y : S) → slice_get all_states j ≡ Some x → slice_get all_states k ≡ Some y → same x y ≡ true
-      → j ≡ k
-  all_apart = joined_apart m same merges (states es) xs (λ j k x y at_j at_k h.
-      let a = at-states es j x at_j in
-      let b = at-states es k y at_k in
-      law.distinct j k a.0 b.0 a.1 b.1 (let p : a.0.state ≡ x = a.2 in let q : b.0.state ≡ y = b.2 in cc))
+    all_reached : (k : ℕ) (x : S) → slice_get (all_states xs) k ≡ Some x → IsReachableWithin m (n + 1) x
+    all_reached k x there =
+        elim (get-append_cases (states es) (map (λ (x : Successor S). x.state) (news xs)) k x there) [
+          | inl l ↦ (
+              let e = at-states es k x l in
+              let c = recorded m same right machine merges es law k e.0 e.1 in
+              (c.0, omega (arith, c.2, no_deeper k e.0 e.1), c.1 ∙ ap Some e.2))
+          | inr r ↦ (
+              let y = get-map (λ (x : Successor S). x.state) (news xs) r.0 x r.2 in
+              let c = recorded m same right machine merges es law i d at in (
+                c.0 ++ y.0.thread ∷ [],
+                omega (arith, c.2, length_push c.0 y.0.thread),
+                run_push m c.0 m.start d.state y.0.state y.0.thread c.1 (new_steps r.0 y.0 y.1) ∙ ap Some (sym y.2),
+              ))
+        ]
 
-  -- where the book has no room for the steps, more states are reached than it may have entries
-  pub more_than : (limit : ℕ) → limit < length es + length (unknown same (states es) xs)
-      → IsMoreThan m (AreOneBy same) (n + 1) limit
-  more_than limit full = record {
-    states = all_states;
-    many = (let a : length all_states ≡ length (states es)
-        + length (map (λ (x : Successor S). x.state) (unknown same (states es) xs)) =
-        length-append (states es) (map (λ (x : Successor S). x.state) (unknown same (states es) xs)) in
-        let b : length (states es) ≡ length es = length-map es (λ (e : Entry S). e.state) in
-        let c : length (map (λ (x : Successor S). x.state) (unknown same (states es) xs))
-        ≡ length (unknown same (states es) xs) =
-        length-map (unknown same (states es) xs) (λ (x : Successor S). x.state) in
-        omega arith);
-    apart = all_apart;
-    reached = all_reached;
-  }
+    -- where the book has no room for the steps, more states are reached than it may have entries
+    pub more_than : {limit : ℕ} → limit < length es + length (news xs) → IsMoreThan m (AreOneBy same) (n + 1) limit
+    more_than full = record {
+      states = all_states xs;
+      many = simp (length-append, length-map) full;
+      apart = joined_apart m same merges (states es) xs (λ j k x y at_j at_k h.
+          let a = at-states es j x at_j in
+          let b = at-states es k y at_k in
+          law.distinct j k a.0 b.0 a.1 b.1 (cc (a.2, b.2, h)));
+      reached = all_reached;
+    }
 
-module _ {S : Type 0} (m : StepMachine S) (same : S → S → Bool) (right : S → Finding → Type 0) (machine : IsMachine m)
-    (merges : Merges m same)
-    (es : List (Entry S)) (law : IsLawful m (AreOneBy same) right es) where
   -- a book that is expanded below n has an entry for each state of at most n steps, so these are no more than its
   -- entries
-  pub not_above : (n limit : ℕ) → IsExpandedBelow m.steps es n → length es ≤ limit → (j : ℕ) → j ≤ n
+  pub not_above : {n limit : ℕ} → IsExpandedBelow m.steps es n → length es ≤ limit → (j : ℕ) → j ≤ n
       → IsMoreThan m (AreOneBy same) j limit → ⊥
-  not_above n limit done room j le more =
-      let bounded : count_by (λ (e : Entry S). leb (m.steps e.state) j) es ≤ length es =
-      count_by-le-length (λ (e : Entry S). leb (m.steps e.state) j) es in
-      let count : IsCount m (AreOneBy same) j (count_by (λ (e : Entry S). leb (m.steps e.state) j) es) =
-      count_to_is m same right machine merges es law j (λ i e at less. done i e at (omega arith))
+  not_above done room j le more =
+      let count = count_to_is m same right machine merges es law j (λ i e at less. done i e at (omega arith))
       (λ s c leads. steps_after m machine c s leads) in
-      let above : limit < count_by (λ (e : Entry S). leb (m.steps e.state) j) es =
-      count_above m same merges j (count_by (λ (e : Entry S). leb (m.steps e.state) j) es) limit count more in
-      omega arith
+      omega (arith, count_above merges count more, count_by-le-length (λ (e : Entry S). leb (m.steps e.state) j) es)
 
   -- where no entry has more than n steps, all entries count the states of at most n steps
   pub count_all : (n : ℕ) → IsExpandedBelow m.steps es n → IsShallow m.steps es n

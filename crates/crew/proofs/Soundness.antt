@@ -1,5 +1,5 @@
 -- Which schedules reach sound states, from the law of the book alone.
-use Rattle.std.proofs.Common.{◌≡◌, ◌≢◌, ℕ, ◌+◌, ◌<◌, ◌≤◌, ◌⊎◌, inl, inr, Bool, true, false, not, Option, Some, None}
+use Rattle.std.proofs.Common.{◌≡◌, ◌≢◌, ℕ, ◌<◌, ◌≤◌, ◌⊎◌, inl, inr, Bool, true, false, not, Option, Some, None}
 use Rattle.std.proofs.Common.{List, length, refl, sym, ap, ◌∙◌, arith, slice_get}
 use Rattle.std.proofs.lemmas.Bool.{true≢false, cases_lt, not-false, not-true}
 use Rattle.std.specs.Option.{option_map}
@@ -7,8 +7,8 @@ use Rattle.replay.specs.declared.finding.Finding.{Finding}
 use Rattle.book.specs.declared.entry.Mark.{Mark}
 use Rattle.book.specs.declared.entry.Mark.TheVariants.{Open, Taken, Expanded}
 use Rattle.replay.specs.Schedule.{AreOneBy, StepMachine, IsMachine, Merges, after}
-use Rattle.book.specs.Entries.{Entry, At}
-use Rattle.book.specs.Law.{IsLawful}
+use Rattle.book.specs.Entries.{Entry, At, Contents}
+use Rattle.book.specs.Law.{IsLawfulBook}
 use Rattle.book.specs.Layers.{IsExpandedBelow}
 use Rattle.replay.specs.Findings.{is_sound, IsSound}
 use Rattle.book.proofs.Coverage.{stands_after}
@@ -26,19 +26,6 @@ mark_cases Expanded = inl refl
 abbrev pub SoundTo : {S : Type 0} → StepMachine S → (S → Finding → Type 0) → ℕ → Type 0
 SoundTo {S} m right n = (c : List ℕ) (s : S) → length c ≤ n → after m c ≡ Some s → IsSound right s
 
--- so a schedule that reaches a fault is longer
-pub fault_longer : {S : Type 0} (m : StepMachine S) (right : S → Finding → Type 0)
-    → ((s : S) (f g : Finding) → right s f → right s g → is_sound f ≡ true → is_sound g ≡ true)
-    → (n : ℕ) → SoundTo m right n → (c : List ℕ) → IsFaulty m right c → n < length c
-fault_longer m right agree n sound c faulty =
-    elim (cases_lt n (length c)) [
-      | inl l ↦ l
-      | inr le ↦ absurd (
-          let leads = faulty.1 in
-          let s = sound c leads.state le leads.leads in
-          true≢false (sym (agree leads.state s.0 faulty.0 s.1 leads.found s.2) ∙ leads.fault))
-    ]
-
 -- no entry is a fault
 pub none_unsound : {S : Type 0} (es : List (Entry S)) → first_fault es ≡ None → (i : ℕ) (e : Entry S) → At es i e
     → is_sound e.finding ≡ true
@@ -53,38 +40,56 @@ found_at es i o first is =
     let f = first_passes (λ (r : Entry _). not (is_sound r.finding)) es i first in
     (f.0, f.1, is ∙ ap (option_map (λ (e : Entry _). e.finding)) f.1, not-true (is_sound f.0.finding) f.2)
 
-module _ {S : Type 0} (m : StepMachine S) (same : S → S → Bool) (right : S → Finding → Type 0)
-    (machine : IsMachine m) (merges : Merges m same)
-    (alike : (a b : S) → m.Fits a → m.Fits b → same a b ≡ true → IsSound right a → IsSound right b)
-    (es : List (Entry S)) (law : IsLawful m (AreOneBy same) right es) where
-  pub sound_to : (n : ℕ) → IsExpandedBelow m.steps es n
-      → ((i : ℕ) (e : Entry S) → At es i e → m.steps e.state ≤ n → is_sound e.finding ≡ true) → SoundTo m right n
+-- a lawful book of a machine, by a test that says which states count as one; the findings of these agree
+pub record IsJudged {X S : Type 0} (m : StepMachine S) (same : S → S → Bool) (right : S → Finding → Type 0)
+    (b : Contents X S) : Type 0 where
+  pub machine : IsMachine m
+  pub merges : Merges m same
+  pub book : IsLawfulBook m (AreOneBy same) right b
+  pub alike : (r s : S) → m.Fits r → m.Fits s → same r s ≡ true → IsSound right r → IsSound right s
+  pub agree : (s : S) (f g : Finding) → right s f → right s g → is_sound f ≡ true → is_sound g ≡ true
+
+module _ {X S : Type 0} {m : StepMachine S} {same : S → S → Bool} {right : S → Finding → Type 0} {b : Contents X S}
+    (judged : IsJudged m same right b) where
+  -- a schedule that reaches a fault is longer than those that reach sound states
+  pub fault_longer : (n : ℕ) → SoundTo m right n → (c : List ℕ) → IsFaulty m right c → n < length c
+  fault_longer n sound c faulty =
+      elim (cases_lt n (length c)) [
+        | inl l ↦ l
+        | inr le ↦ absurd (
+            let leads = faulty.1 in
+            let s = sound c leads.state le leads.leads in
+            true≢false (sym (judged.agree leads.state s.0 faulty.0 s.1 leads.found s.2) ∙ leads.fault))
+      ]
+
+  -- where entries of at most n steps are sound, and those of fewer expanded, so are the states
+  pub sound_to : (n : ℕ) → IsExpandedBelow m.steps b.entries n
+      → ((i : ℕ) (e : Entry S) → At b.entries i e → m.steps e.state ≤ n → is_sound e.finding ≡ true) → SoundTo m right n
   sound_to n done sound c s short leads =
-      let w = stands_after m same right machine merges es law n done c s short leads in
-      let up : m.steps s ≡ length c = steps_after m machine c s leads in
-      alike w.1.state s (law.fit w.0 w.1 w.2) (fits_after m machine c s leads) w.3 (
+      let law = judged.book.law in
+      let w = stands_after m same right judged.machine judged.merges b.entries law n done c s short leads in
+      judged.alike w.1.state s (law.fit w.0 w.1 w.2) (fits_after m judged.machine c s leads) w.3 (
         w.1.finding,
         law.findings w.0 w.1 w.2,
-        sound w.0 w.1 w.2 (let q : m.steps w.1.state ≤ m.steps s = w.4 in omega arith),
+        sound w.0 w.1 w.2 (omega (arith, w.4, steps_after m judged.machine c s leads)),
       )
 
-  pub sound_by : (n : ℕ) → first_fault es ≡ None → IsExpandedBelow m.steps es n → SoundTo m right n
-  sound_by n none done = sound_to n done (λ i e at _. none_unsound es none i e at)
-
-  module _ (i : ℕ) (first : first_fault es ≡ Some i) (e : Entry S) (at : At es i e) where
+  module _ (i : ℕ) (first : first_fault b.entries ≡ Some i) (e : Entry S) (at : At b.entries i e) where
+    -- the first fault is one
     pub is_fault : is_sound e.finding ≡ false
     is_fault =
-        let f = first_passes (λ (r : Entry S). not (is_sound r.finding)) es i first in
-        let q : f.0 ≡ e = (let u : slice_get es i ≡ Some f.0 = f.1 in let v : slice_get es i ≡ Some e = at in cc) in
-        ap (λ (r : Entry S). is_sound r.finding) (sym q) ∙ not-true (is_sound f.0.finding) f.2
+        let f = first_passes (λ (r : Entry S). not (is_sound r.finding)) b.entries i first in
+        let is : e ≡ f.0 = cc (f.1, at) in
+        rw is (not-true (is_sound f.0.finding) f.2)
 
     -- entries of fewer steps than the first fault's are sound
-    pub sound_below : (j : ℕ) (d : Entry S) → At es j d → m.steps d.state < m.steps e.state → is_sound d.finding ≡ true
+    pub sound_below : (j : ℕ) (d : Entry S) → At b.entries j d → m.steps d.state < m.steps e.state
+        → is_sound d.finding ≡ true
     sound_below j d there less =
         elim (cases_lt j i) [
           | inl l ↦ not-false (is_sound d.finding)
-              ((first_passes (λ (r : Entry S). not (is_sound r.finding)) es i first).3 j d l there)
-          | inr le ↦ absurd (let q : m.steps e.state ≤ m.steps d.state = law.ordered i j e d at there le in omega arith)
+              ((first_passes (λ (r : Entry S). not (is_sound r.finding)) b.entries i first).3 j d l there)
+          | inr le ↦ absurd (omega (arith, judged.book.law.ordered i j e d at there le))
         ]
 
     -- and so are the states after fewer steps
@@ -92,6 +97,6 @@ module _ {S : Type 0} (m : StepMachine S) (same : S → S → Bool) (right : S �
     shorter_sound n less = sound_to n
         (λ j d there bounded. elim (mark_cases d.mark) [
           | inl x ↦ x
-          | inr x ↦ absurd (let q : m.steps e.state ≤ m.steps d.state + 1 = law.near j i d e there x at in omega arith)
+          | inr x ↦ absurd (omega (arith, judged.book.law.near j i d e there x at))
         ])
         (λ j d there bounded. sound_below j d there (omega arith))

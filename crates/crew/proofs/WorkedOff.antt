@@ -1,5 +1,5 @@
 -- Where the layers are worked off, the last one is at hand.
-use Rattle.std.proofs.Common.{◌≡◌, ℕ, zero, suc, ◌≤◌, inl, inr, false, List, sym, ◌∙◌, arith, subst}
+use Rattle.std.proofs.Common.{◌≡◌, ℕ, zero, suc, ◌≤◌, inl, inr, false, List, sym, ◌∙◌, arith}
 use Rattle.std.proofs.lemmas.Bool.{true≢false, cases_lt}
 use Rattle.replay.specs.Findings.{is_sound}
 use Rattle.book.specs.Entries.{Entry, At}
@@ -12,31 +12,26 @@ module _ {S : Type 0} (steps : S → ℕ) (es : List (Entry S)) (n : ℕ) (worke
   pub last_of_fault : (i : ℕ) (e : Entry S) → At es i e → is_sound e.finding ≡ false → (steps e.state ≤ n)
       × IsLastLayer steps es (steps e.state)
   last_of_fault i e at fault =
-      let bounded : steps e.state ≤ worked.layer = worked.stands.shallow i e at in
-      let le : worked.layer ≤ n = worked.within in
       let many : worked.layer ≤ steps e.state = elim (cases_lt (steps e.state) worked.layer) [
         | inl l ↦ absurd (true≢false (sym (worked.stands.sound i e at l) ∙ fault))
         | inr ge ↦ ge
       ] in
-      let is : worked.layer ≡ steps e.state = omega arith in
-      (omega arith, subst (λ d. IsLastLayer steps es d) is (worked.stands.done, worked.stands.shallow))
+      let is : steps e.state ≡ worked.layer = omega (arith, worked.stands.shallow i e at) in
+      rw is (worked.within, (worked.stands.done, worked.stands.shallow))
 
 -- where every entry is worked out too, none has n steps
 pub at_rest : {S : Type 0} (steps : S → ℕ) (es : List (Entry S)) (merge : Merge) (n : ℕ) → IsWorkedOff steps es n
     → merge ≡ Names → IsWorkedOut es
     → (start : Entry S) → At es 0 start → steps start.state ≡ 0 → IsAtRest steps es merge n
 at_rest steps es merge zero worked names out start at none =
-    let le : worked.layer ≤ 0 = worked.within in
-    absurd (worked.stands.fresh 0 start at (omega arith) (out 0 start at))
+    absurd (worked.stands.fresh 0 start at (omega (arith, worked.within)) (out 0 start at))
 at_rest steps es merge (suc before) worked names out start at none = (
   names,
   before,
   (omega arith),
-  (λ i e there.
-      let bounded : steps e.state ≤ worked.layer = worked.stands.shallow i e there in
-      let le : worked.layer ≤ suc before = worked.within in
-      elim (cases_lt before (steps e.state)) [
-        | inl over ↦ absurd (worked.stands.fresh i e there (omega arith) (out i e there))
-        | inr within ↦ within
-      ]),
+  (λ i e there. elim (cases_lt before (steps e.state)) [
+    | inl over ↦ absurd (worked.stands.fresh i e there
+        (omega (arith, worked.stands.shallow i e there, worked.within)) (out i e there))
+    | inr within ↦ within
+  ]),
 )

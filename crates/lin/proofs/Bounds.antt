@@ -1,7 +1,7 @@
 -- A linearization has no more operations than its program, and so twelve at most.
 use Rattle.std.proofs.Common.{◌≡◌, ◌≢◌, ℕ, zero, suc, ◌+◌, ◌<◌, ◌≤◌, inl, inr, true, false, true≢false, List, [], ◌∷◌}
-use Rattle.std.proofs.Common.{length, map, Some, IsSome, IfSome, All, AllPairs, Contains, slice_get, refl, sym, ap, ap₂}
-use Rattle.std.proofs.Common.{arith, subst, eqb, eqb-true}
+use Rattle.std.proofs.Common.{length, map, Some, IsSome, IfSome, All, AllPairs, Contains, slice_get, refl, sym, ap}
+use Rattle.std.proofs.Common.{arith, eqb, eqb-true}
 use Rattle.std.specs.Prelude.{option_and_then, sum_by}
 use Rattle.std.specs.List.{list_any, AllByRecursion, IsDistinct}
 use Rattle.std.proofs.lemmas.Bool.{or_cases, false_from_ne_true}
@@ -29,33 +29,20 @@ Has threads t i = IsSome (option_and_then (λ ops. slice_get ops i) (slice_get t
 within : (ops : List Op) (i : ℕ) → IsSome (slice_get ops i) → i < length ops
 within [] i h = absurd (true≢false (sym h))
 within (o ∷ ops) zero h = omega arith
-within (o ∷ ops) (suc i) h = let less : i < length ops = within ops i h in omega arith
+within (o ∷ ops) (suc i) h = omega (arith, within ops i h)
 
 rank_below : (threads : List (List Op)) (t i : ℕ) → Has threads t i → rank threads t i < sum_by length threads
 rank_below [] t i h = absurd (true≢false (sym h))
-rank_below (ops ∷ rest) zero i h =
-    let less : i < length ops = within ops i h in
-    let below : i < sum_by length (ops ∷ rest) = omega (arith, sum_by-cons length ops rest) in
-    below
-rank_below (ops ∷ rest) (suc t) i h =
-    let less : rank rest t i < sum_by length rest = rank_below rest t i h in
-    let below : length ops + rank rest t i < sum_by length (ops ∷ rest) = omega (arith, sum_by-cons length ops rest) in
-    below
+rank_below (ops ∷ rest) zero i h = omega (arith, within ops i h, sum_by-cons length ops rest)
+rank_below (ops ∷ rest) (suc t) i h = omega (arith, rank_below rest t i h, sum_by-cons length ops rest)
 
 rank_same : (threads : List (List Op)) (t i u j : ℕ) → Has threads t i → Has threads u j
     → rank threads t i ≡ rank threads u j → (t ≡ u) × (i ≡ j)
 rank_same [] t i u j h k e = absurd (true≢false (sym h))
 rank_same (ops ∷ rest) zero i zero j h k e = (refl, e)
-rank_same (ops ∷ rest) zero i (suc u) j h k e =
-    let less : i < length ops = within ops i h in
-    let past : i ≡ length ops + rank rest u j = e in
-    absurd (omega arith)
-rank_same (ops ∷ rest) (suc t) i zero j h k e =
-    let less : j < length ops = within ops j k in
-    let past : length ops + rank rest t i ≡ j = e in
-    absurd (omega arith)
+rank_same (ops ∷ rest) zero i (suc u) j h k e = absurd (omega (arith, within ops i h))
+rank_same (ops ∷ rest) (suc t) i zero j h k e = absurd (omega (arith, within ops j k))
 rank_same (ops ∷ rest) (suc t) i (suc u) j h k e =
-    let both : length ops + rank rest t i ≡ length ops + rank rest u j = e in
     let same = rank_same rest t i u j h k (omega arith) in
     (ap suc same.0, same.1)
 
@@ -80,8 +67,7 @@ module _ (program : Program) where
   same_op : (a b : OpId) → IsNamed a → IsNamed b → rank_of a ≡ rank_of b → a ≡ b
   same_op a b h k e =
       let pieces = rank_same program.threads a.thread a.index b.thread b.index h k e in
-      let make : ℕ → ℕ → OpId = λ t i. record { thread = t; index = i } in
-      ap₂ make pieces.0 pieces.1
+      λ j. record { thread = pieces.0 j; index = pieces.1 j }
 
   apart : (a : OpId) → IsNamed a → (rest : List OpId) → ((b : OpId) → Contains rest b → a ≢ b) → All IsNamed rest
       → AllByRecursion (λ n. eqb (rank_of a) n ≡ false) (map rank_of rest)
@@ -108,11 +94,11 @@ module _ (program : Program) where
   ranks_below [] named q h = absurd (true≢false (sym h))
   ranks_below (a ∷ rest) named q h =
       elim (or_cases (eqb q (rank_of a)) (list_any (eqb q) (map rank_of rest)) h) [
-        | inl same ↦
-            let e : q ≡ rank_of a = eqb-true q (rank_of a) same in
-            let less : rank_of a < sum_by length program.threads =
-            rank_below program.threads a.thread a.index (All-head IsNamed a rest named) in
-            omega arith
+        | inl same ↦ omega (
+          arith,
+          eqb-true q (rank_of a) same,
+          rank_below program.threads a.thread a.index (All-head IsNamed a rest named),
+        )
         | inr later ↦ ranks_below rest (All-tail IsNamed a rest named) q later
       ]
 
@@ -120,7 +106,7 @@ module _ (program : Program) where
       → IsLinearization program history order → length order ≤ 12
   at_most_twelve limits history order is =
       let named =
-      all_given IsNamed (λ a o e. subst IsSome (sym e) refl) history (keys_of program.initial) order is.replies in
+      all_given IsNamed (λ a o e. rw e refl) history (keys_of program.initial) order is.replies in
       let bounded : length (map rank_of order) ≤ sum_by length program.threads =
       length-le_from_distinct_below (map rank_of order) (sum_by length program.threads)
       (distinct_ranks order is.distinct named) (ranks_below order named) in

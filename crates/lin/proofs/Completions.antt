@@ -1,7 +1,7 @@
 -- A list is a linearization exactly if it completes one from nothing.
 use Rattle.std.proofs.Common.{◌≡◌, ◌≢◌, ℕ, zero, suc, ◌+◌, ◌<◌, ◌≤◌, ◌⊎◌, inl, inr, true, false, true≢false, List, []}
 use Rattle.std.proofs.Common.{◌∷◌, length, get_or, take, drop, Some, IsSome, IfSome, All, AllPairs, Contains, slice_get}
-use Rattle.std.proofs.Common.{refl, sym, ◌∙◌, ap, arith, subst, subst₂, ◌↔◌}
+use Rattle.std.proofs.Common.{refl, sym, ◌∙◌, arith, ◌↔◌}
 use mathlib.Core.Path.{fun_ext}
 use Rattle.std.proofs.lemmas.Bool.{or_cases, or_parts, or_from, or_left, or_right, false_from_ne_true}
 use Rattle.std.proofs.lemmas.List.Elements.{All-head, All-tail, All-cons, Contains-get_or}
@@ -44,13 +44,13 @@ module _ (program : Program) (history : History) where
     new = l.new x (Contains-head x xs);
     in_time = λ b among ended. elim (or_cases (listed b) (same_name x b) among) [
       | inl earlier ↦ l.after x b (Contains-head x xs) earlier ended
-      | inr same ↦ not_itself (subst (EndedBefore history x) (sym (same_name-is x b same)) ended)
+      | inr same ↦ not_itself (rw (← same_name-is x b same) at ended)
     ];
     gives = IsSomeAnd-of (op_at program x.thread x.index) _ o is (gives, refl);
   }
     where
       not_itself : EndedBefore history x x → ⊥
-      not_itself ended = let below : 0 < 0 = l.in_time 0 0 x x refl refl ended in omega arith
+      not_itself ended = omega (arith, l.in_time 0 0 x x refl refl ended)
 
   rest_of : (listed : Listed) (keys next : Keys) (x : OpId) (xs : List OpId) → GivesReplies program history next xs
       → IsLinearizationAfter program history listed keys (x ∷ xs)
@@ -65,31 +65,27 @@ module _ (program : Program) (history : History) where
       | inl earlier ↦ inl (or_left (listed a) (same_name x a) earlier)
       | inr among ↦ elim (Contains-cases x xs a among) [
         | inl same
-            ↦ inl (or_right (listed a) (same_name x a) (subst (λ b. same_name x b ≡ true) same (same_name_self x)))
+            ↦ inl (or_right (listed a) (same_name x a) (rw (← same) (same_name_self x)))
         | inr later ↦ inr later
       ]
     ];
-    in_time =
-        λ i j a b at_i at_j ended. let below : suc i < suc j = l.in_time (suc i) (suc j) a b at_i at_j ended in
-        omega arith;
+    in_time = λ i j a b at_i at_j ended. omega (arith, l.in_time (suc i) (suc j) a b at_i at_j ended);
     after = λ a b among earlier ended. elim (or_cases (listed b) (same_name x b) earlier) [
       | inl before ↦ l.after a b (Contains-tail x xs a among) before ended
-      | inr same ↦ not_before a (slice_get-Contains xs a among)
-          (subst (EndedBefore history a) (sym (same_name-is x b same)) ended)
+      | inr same ↦ not_before a (slice_get-Contains xs a among) (rw (same_name-is x b same) ended)
     ];
     replies = gives;
   }
     where
       not_before : (a : OpId) → (k : ℕ) × (slice_get xs k ≡ Some a) → EndedBefore history a x → ⊥
-      not_before a at ended = let below : suc at.0 < 0 = l.in_time (suc at.0) 0 a x at.1 refl ended in omega arith
+      not_before a at ended = omega (arith, l.in_time (suc at.0) 0 a x at.1 refl ended)
 
   completes : (listed : Listed) (keys : Keys) (rest : List OpId) → IsLinearizationAfter program history listed keys rest
       → Completes program history listed keys rest
   completes listed keys [] l =
       λ a finished. elim (l.complete a finished) [
         | inl earlier ↦ earlier
-        | inr among
-            ↦ absurd (not-Contains-nil a among)
+        | inr among ↦ absurd (not-Contains-nil a among)
       ]
   completes listed keys (x ∷ xs) l =
       let first =
@@ -125,20 +121,19 @@ module _ (program : Program) (history : History) where
         distinct = AllPairs-cons (λ a b. a ≢ b) x xs
             (λ k d below. different (get_or xs k d) (Contains-get_or xs k d below)) l.distinct;
         new = λ a among. elim (Contains-cases x xs a among) [
-          | inl same ↦ subst (λ b. listed b ≡ false) same s.new
+          | inl same ↦ rw same at s.new
           | inr later ↦ (or_parts (listed a) (same_name x a) (l.new a later)).0
         ];
         complete = λ a finished. elim (l.complete a finished) [
           | inl earlier ↦ elim (or_cases (listed a) (same_name x a) earlier) [
             | inl before ↦ inl before
-            | inr same ↦ inr (subst (Contains (x ∷ xs)) (same_name-is x a same) (Contains-head x xs))
+            | inr same ↦ inr (rw (← same_name-is x a same) (Contains-head x xs))
           ]
           | inr later ↦ inr (Contains-tail x xs a later)
         ];
         in_time = places;
         after = λ a b among earlier ended. elim (Contains-cases x xs a among) [
-          | inl same ↦ s.in_time b (or_left (listed b) (same_name x b) earlier)
-              (subst (λ y. EndedBefore history y b) (sym same) ended)
+          | inl same ↦ s.in_time b (or_left (listed b) (same_name x b) earlier) (rw same ended)
           | inr later ↦ l.after a b later (or_left (listed b) (same_name x b) earlier) ended
         ];
         replies = run;
@@ -150,22 +145,19 @@ module _ (program : Program) (history : History) where
           different : (y : OpId) → Contains xs y → x ≢ y
           different y among same =
               let other = (or_parts (listed y) (same_name x y) (l.new y among)).1 in
-              let equal : same_name x y ≡ true = subst (λ b. same_name x b ≡ true) same (same_name_self x) in
-              true≢false (sym equal ∙ other)
+              true≢false (sym (same_name_self x) ∙ rw (← same) at other)
 
           places : (i j : ℕ) (a b : OpId) → slice_get (x ∷ xs) i ≡ Some a → slice_get (x ∷ xs) j ≡ Some b
               → EndedBefore history a b → i < j
           places zero zero a b at_i at_j ended =
-              let first : x ≡ a = cc in
-              let second : x ≡ b = cc in
-              absurd (s.in_time x itself (subst₂ (EndedBefore history) (sym first) (sym second) ended))
+              let first : a ≡ x = cc in
+              let second : b ≡ x = cc in
+              absurd (s.in_time x itself (rw (first, second) at ended))
           places zero (suc j) a b at_i at_j ended = omega arith
           places (suc i) zero a b at_i at_j ended =
               let second : x ≡ b = cc in
-              absurd (l.after a x (Contains-slice_get xs i a at_i) itself
-              (subst (EndedBefore history a) (sym second) ended))
-          places (suc i) (suc j) a b at_i at_j ended = let below : i < j = l.in_time i j a b at_i at_j ended in
-              omega arith
+              absurd (l.after a x (Contains-slice_get xs i a at_i) itself (rw second ended))
+          places (suc i) (suc j) a b at_i at_j ended = omega (arith, l.in_time i j a b at_i at_j ended)
 
           run : GivesReplies program history keys (x ∷ xs)
           run =
@@ -175,7 +167,7 @@ module _ (program : Program) (history : History) where
               IsSomeAnd-of (op_at program x.thread x.index)
               (λ o. IfSome (reply history x) (λ r. r ≡ reply_on o keys)
               × GivesReplies program history (keys_after o keys) xs) gives.0 gives.1
-              (gives.2.0, subst (λ k. GivesReplies program history k xs) gives.2.1 l.replies)
+              (gives.2.0, rw (← gives.2.1) l.replies)
 
   -- a linearization completes what begins with nothing, and what completes that is a linearization
   pub IsLinearization-completes : (order : List OpId) → IsLinearization program history order
@@ -200,8 +192,7 @@ module _ (program : Program) (history : History) where
         complete =
             λ a finished. elim (l.complete a finished) [
               | inl earlier ↦ absurd (true≢false (sym earlier))
-              | inr among
-                  ↦ among
+              | inr among ↦ among
             ];
         in_time = l.in_time;
         replies = l.replies;
@@ -215,15 +206,13 @@ module _ (program : Program) (history : History) where
       λ k o. IfSome (reply history a) (λ r. r ≡ reply_on o keys) × (k ≡ keys_after o keys) in
       let one = IsSomeAnd-value (op_at program a.thread a.index) (P next) s.gives in
       let two = IsSomeAnd-value (op_at program a.thread a.index) (P next') t.gives in
-      let e : one.0 ≡ two.0 = cc (one.1, two.1) in
-      one.2.1 ∙ ap (λ o. keys_after o keys) e ∙ sym two.2.1
+      cc (one.1, two.1, one.2.1, two.2.1)
 
   pub Completes-first : (listed : Listed) (keys next : Keys) (x : OpId) (rest : List OpId)
       → StandsNext program history listed keys x next
       → Completes program history listed keys (x ∷ rest) ↔ Completes program history (with_name listed x) next rest
   Completes-first listed keys next x rest s = (
-    λ c. subst (λ k. Completes program history (with_name listed x) k rest)
-        (StandsNext-same listed keys c.0 next x c.1 s) c.2,
+    λ c. rw (StandsNext-same listed keys next c.0 x s c.1) c.2,
     λ more. (next, s, more),
   )
 
@@ -239,13 +228,9 @@ module _ (program : Program) (history : History) where
         → A ↔ Completes program history (listed_in (take (i + 1) order)) next (drop (i + 1) order)
     Completes-more keys next A s before =
         let first = Completes-first (listed_in (take i order)) keys next (get_or order i d) (drop (i + 1) order) s in
-        let cut = drop_more order i d within in
-        let C : Listed → List OpId → Type 0 = λ listed rest. Completes program history listed next rest in (
-          λ a. subst (λ listed. C listed (drop (i + 1) order)) listed_more
-              (first.0 (subst (Completes program history (listed_in (take i order)) keys) cut (before.0 a))),
-          λ c. before.1
-              (subst (Completes program history (listed_in (take i order)) keys) (sym cut)
-              (first.1 (subst (λ listed. C listed (drop (i + 1) order)) (sym listed_more) c))),
+        let cut = drop_more order i d within in (
+          λ a. rw (← listed_more) (first.0 (rw cut at (before.0 a))),
+          λ c. before.1 (rw cut (first.1 (rw listed_more c))),
         )
 
     -- where it doesn't, nothing that begins with it completes
@@ -253,16 +238,11 @@ module _ (program : Program) (history : History) where
         → ((next : Keys) → StandsNext program history (listed_in (take i order)) keys (get_or order i d) next → ⊥)
         → Completes program history (listed_in (take i order)) keys (drop i order) → ⊥
     Completes-stuck keys none c =
-        let c' = subst (Completes program history (listed_in (take i order)) keys) (drop_more order i d within) c in
-        none c'.0 c'.1
+        let c' = rw (drop_more order i d within) at c in none c'.0 c'.1
 
   -- at the end of the list it is the last fact that is left
   pub Completes-end : (order : List OpId) (i : ℕ) → length order ≤ i → (keys : Keys) (A : Type 0) → A
       ↔ Completes program history (listed_in (take i order)) keys (drop i order)
       → A ↔ EveryFinishedIsListed history (listed_in order)
   Completes-end order i past keys A last =
-      let all = take_all i order past in
-      let none = drop_all i order past in
-      let C : List OpId → List OpId → Type 0 =
-      λ front rest. A ↔ Completes program history (listed_in front) keys rest in
-      subst₂ C all none last
+      rw (take_all i order past, drop_all i order past) at last

@@ -1,7 +1,7 @@
 -- Names of operations, and the values beside them.
-use Rattle.std.proofs.Common.{◌≡◌, ◌≢◌, ℕ, zero, suc, ◌+◌, ◌*◌, ◌<◌, ◌≤◌, ◌&&◌, ◌||◌, inl, inr, Bool, true, false}
+use Rattle.std.proofs.Common.{◌≡◌, ◌≢◌, ℕ, zero, suc, ◌+◌, ◌*◌, ◌<◌, ◌≤◌, ◌||◌, inl, inr, Bool, true, false}
 use Rattle.std.proofs.Common.{true≢false, cond, List, [], ◌∷◌, ◌++◌, length, get_or, take, Option, Some, None, IsSome}
-use Rattle.std.proofs.Common.{refl, sym, ◌∙◌, ap₂, eqb, eqb-true, eq-eqb, arith, subst}
+use Rattle.std.proofs.Common.{refl, sym, ◌∙◌, eqb, eqb-true, eq-eqb, arith, subst}
 use Rattle.std.specs.Prelude.{is_some}
 use Rattle.std.proofs.lemmas.Bool.{and_parts, or_cases}
 use Rattle.std.proofs.lemmas.List.{take_more, take_all}
@@ -16,8 +16,7 @@ same_name-is a b h =
     let pieces = and_parts (eqb a.thread b.thread) (eqb a.index b.index) h in
     let threads : a.thread ≡ b.thread = eqb-true a.thread b.thread pieces.0 in
     let indices : a.index ≡ b.index = eqb-true a.index b.index pieces.1 in
-    let make : ℕ → ℕ → OpId = λ t i. record { thread = t; index = i } in
-    ap₂ make threads indices
+    λ j. record { thread = threads j; index = indices j }
 
 -- another operation has another place
 pub places_differ : (a b : OpId) → a.index < 8 → b.index < 8 → same_name a b ≡ false
@@ -25,8 +24,7 @@ pub places_differ : (a b : OpId) → a.index < 8 → b.index < 8 → same_name a
 places_differ a b short below differs e =
     let threads : a.thread ≡ b.thread = omega arith in
     let indices : a.index ≡ b.index = omega arith in
-    let same : same_name a b ≡ true = ap₂ ◌&&◌ (eq-eqb a.thread b.thread threads) (eq-eqb a.index b.index indices) in
-    true≢false (sym same ∙ differs)
+    true≢false (rw (eq-eqb a.thread b.thread threads, eq-eqb a.index b.index indices) at differs)
 
 module _ {V : Type 0} where
   kept : (v : V) (o : Option V) (b : Bool) → IsSome o → IsSome (cond b (Some v) o)
@@ -83,17 +81,16 @@ module _ {V : Type 0} where
   pub each_more_read : (Q : OpId → Type 0) (items : List (OpId × V)) (i : ℕ) (x : OpId × V) → i < length items
       → x ≡ get_or items i x → Q x.0 → ((a : OpId) → IsSome (value_at (take i items) a) → Q a) → (a : OpId)
       → IsSome (value_at (take (i + 1) items) a) → Q a
-  each_more_read Q items i x h read here before = each_more Q items i x h (subst (λ y. Q y.0) read here) before
+  each_more_read Q items i x h read here before = each_more Q items i x h (rw (← read) here) before
 
   -- what holds of each name with a value, once all are passed
   pub each_all : (Q : OpId → Type 0) (items entries : List (OpId × V)) (i : ℕ) → items ≡ entries → length items ≤ i
       → ((a : OpId) → IsSome (value_at (take i items) a) → Q a) → (a : OpId) → IsSome (value_at entries a) → Q a
   each_all Q items entries i e past each a some =
-      each a (subst (λ xs. IsSome (value_at xs a)) (sym e ∙ sym (take_all i items past)) some)
+      each a (rw (take_all i items past, e) some)
 
   -- an entry that was read has a name with a value
   pub IsSome-value_at_read : (items entries : List (OpId × V)) (i : ℕ) (x : OpId × V) → items ≡ entries
       → i < length items → x ≡ get_or items i x → IsSome (value_at entries x.0)
   IsSome-value_at_read items entries i x e h read =
-      subst (λ xs. IsSome (value_at xs x.0)) e
-      (subst (λ y. IsSome (value_at items y.0)) (sym read) (IsSome-value_at items i x h))
+      rw (← e, read) (IsSome-value_at items i x h)

@@ -30,16 +30,14 @@ module _ (m n : ℕ) where
   pub union_bit : (l : Bool) (i : ℕ) → (l && eqb (bit_at (bit_or m n) i) 1)
       ≡ ((l && eqb (bit_at m i) 1) || (l && eqb (bit_at n i) 1))
   union_bit l i =
-      ap (λ b. l && eqb b 1) (bit_at_or m n i)
-      ∙ ap (λ b. l && b) (or_one (bit_at m i) (bit_at n i) (bit_at-lt m i) (bit_at-lt n i))
-      ∙ guarded_or l (eqb (bit_at m i) 1) (eqb (bit_at n i) 1)
+      rw (bit_at_or m n i, or_one (bit_at m i) (bit_at n i) (bit_at-lt m i) (bit_at-lt n i))
+      (guarded_or l (eqb (bit_at m i) 1) (eqb (bit_at n i) 1))
 
   pub intersection_bit : (l : Bool) (i : ℕ)
       → (l && eqb (bit_at (bit_and m n) i) 1) ≡ ((l && eqb (bit_at m i) 1) && (l && eqb (bit_at n i) 1))
   intersection_bit l i =
-      ap (λ b. l && eqb b 1) (bit_at_and m n i)
-      ∙ ap (λ b. l && b) (and_one (bit_at m i) (bit_at n i) (bit_at-lt m i) (bit_at-lt n i))
-      ∙ guarded_and l (eqb (bit_at m i) 1) (eqb (bit_at n i) 1)
+      rw (bit_at_and m n i, and_one (bit_at m i) (bit_at n i) (bit_at-lt m i) (bit_at-lt n i))
+      (guarded_and l (eqb (bit_at m i) 1) (eqb (bit_at n i) 1))
 
   in_both : (x y : ℕ) → max x y ≡ y → x < 2 → y < 2 → eqb x 1 ≡ true → eqb y 1 ≡ true
   in_both x y e h k one = eq-eqb y 1 (let is : x ≡ 1 = eqb-true x 1 one in omega arith)

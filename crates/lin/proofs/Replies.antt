@@ -1,7 +1,7 @@
 -- A linearization before a reply is one after it exactly if running it gives that reply.
 use Rattle.std.proofs.Common.{◌≡◌, ◌≢◌, ℕ, zero, suc, ◌<◌, ◌≤◌, ◌⊎◌, inl, inr, Bool, true, false, true≢false, cond}
 use Rattle.std.proofs.Common.{◌||◌, List, [], ◌∷◌, ◌++◌, length, get_or, Option, Some, None, IsSome, IfSome}
-use Rattle.std.proofs.Common.{AllPairs, Contains, slice_get, refl, sym, ◌∙◌, ap, arith, subst}
+use Rattle.std.proofs.Common.{AllPairs, Contains, slice_get, refl, sym, ◌∙◌, ap, arith}
 use Rattle.std.specs.Prelude.{option_and_then, IsSomeAnd, MatchOption, slice_index}
 use mathlib.Core.Bool.{beq}
 use Rattle.std.specs.Option.{option_map}
@@ -27,23 +27,21 @@ use Rattle.lin.proofs.Lists.{IsSomeAnd-value, IsSomeAnd-of, Contains-head, Conta
 listed_here : (order : List OpId) (a : OpId) → listed_in order a ≡ true → Contains order a
 listed_here order a h =
     let some = Any-from_list_any (λ b. same_name b a) order h in
-    subst (Contains order) (same_name-is some.1 a some.4) (some.0, some.2, some.3)
+    rw (same_name-is some.1 a some.4) at (let c : Contains order some.1 = (some.0, some.2, some.3) in c)
 
 not_among : (order : List OpId) (a b : OpId) → listed_in order a ≡ false → Contains order b → b ≢ a
 not_among order a b none among same =
-    let here : same_name (get_or order among.0 b) b ≡ true =
-    subst (λ c. same_name c b ≡ true) (sym among.2) (same_name_self b) in
-    true≢false (sym (list_any_at (λ c. same_name c b) order among.0 b among.1 here)
-    ∙ subst (λ c. listed_in order c ≡ false) (sym same) none)
+    let here : same_name (get_or order among.0 b) b ≡ true = rw (among.2, same_name_self b) in
+    true≢false (sym (list_any_at (λ c. same_name c b) order among.0 b among.1 here) ∙ rw same none)
 
 differ : (a b : OpId) → same_name b a ≡ false → a ≢ b
-differ a b other same = true≢false (sym (subst (λ c. same_name b c ≡ true) (sym same) (same_name_self b)) ∙ other)
+differ a b other same = true≢false (sym (same_name_self b) ∙ rw same at other)
 
 -- what is at a place of a list with one name more
 push_cases : (order : List OpId) (a : OpId) (i : ℕ) (b : OpId) → slice_get (order ++ a ∷ []) i ≡ Some b
     → (slice_get order i ≡ Some b) ⊎ ((i ≡ length order) × (a ≡ b))
 push_cases [] a zero b h = inr (refl, cc)
-push_cases [] a (suc i) b h = absurd (let q : None ≡ Some b = h in cc)
+push_cases [] a (suc i) b h = absurd cc
 push_cases (x ∷ order) a zero b h = inl h
 push_cases (x ∷ order) a (suc i) b h =
     elim (push_cases order a i b h) [
@@ -54,12 +52,12 @@ push_cases (x ∷ order) a (suc i) b h =
 -- ---- what an operation replies
 pub op_of_reply : (o : Option Op) (keys : Keys) (r : Bool) → option_map (λ op. reply_on op keys) o ≡ Some r
     → (op : Op) × (o ≡ Some op) × (r ≡ reply_on op keys)
-op_of_reply None keys r h = absurd (let q : None ≡ Some r = h in cc)
-op_of_reply (Some op) keys r h = (op, refl, (let q : Some (reply_on op keys) ≡ Some r = h in cc))
+op_of_reply None keys r h = absurd cc
+op_of_reply (Some op) keys r h = (op, refl, cc)
 
 telling : (o : Option Op) (op : Op) (keys : Keys) (r : Bool) → o ≡ Some op → r ≡ reply_on op keys
     → option_map (λ p. reply_on p keys) o ≡ Some r
-telling o op keys r e is = subst (λ p. option_map (λ q. reply_on q keys) p ≡ Some r) (sym e) (ap Some (sym is))
+telling o op keys r e is = rw (e, is)
 
 module _ (program : Program) (a : OpId) where
   -- what an operation replies here
@@ -89,10 +87,10 @@ module _ (program : Program) (old new : History) (a : OpId) (r : Bool) (is : Has
   -- operations other than this one reply as before
   other_gives : (keys : Keys) (o : Op) (b : OpId) → a ≢ b → IfSome (reply old b) (λ s. s ≡ reply_on o keys)
       → IfSome (reply new b) (λ s. s ≡ reply_on o keys)
-  other_gives keys o b apart given = subst (λ v. IfSome v (λ s. s ≡ reply_on o keys)) (sym (is.others b apart)) given
+  other_gives keys o b apart given = rw (is.others b apart) given
 
   own_gives : (keys : Keys) (o : Op) → r ≡ reply_on o keys → IfSome (reply new a) (λ s. s ≡ reply_on o keys)
-  own_gives keys o stated = subst (λ v. IfSome v (λ s. s ≡ reply_on o keys)) (sym is.replied) stated
+  own_gives keys o stated = rw is.replied stated
 
   rest_gives : (keys : Keys) (rest : List OpId) → ((b : OpId) → Contains rest b → a ≢ b)
       → GivesReplies program old keys rest → GivesReplies program new keys rest
@@ -123,16 +121,14 @@ module _ (program : Program) (old new : History) (a : OpId) (r : Bool) (is : Has
           let e : b ≡ a = same_name-is b a same in
           let own = op_of_reply (op_at program a.thread a.index) keys r
           (sym (at_head program a keys b rest same) ∙ stated) in
-          let at : op_at program b.thread b.index ≡ Some own.0 =
-          subst (λ c. op_at program c.thread c.index ≡ Some own.0) (sym e) own.1 in
-          let one : op.0 ≡ own.0 = (let q : Some op.0 ≡ Some own.0 = sym op.1 ∙ at in cc) in
-          let gives : IfSome (reply new b) (λ s. s ≡ reply_on own.0 keys) =
-          subst (λ c. IfSome (reply new c) (λ s. s ≡ reply_on own.0 keys)) (sym e) (own_gives keys own.0 own.2) in
-          let more =
-          rest_gives (keys_after op.0 keys) rest
-          (λ c among. subst (λ x. x ≢ c) e (AllPairs-first (λ x y. x ≢ y) b rest distinct c among)) op.2.1 in
-          IsSomeAnd-of (op_at program b.thread b.index) (Given new keys b rest) own.0 at
-          (gives, subst (λ o. GivesReplies program new (keys_after o keys) rest) one more)
+          let one : own.0 ≡ op.0 = cc (e, own.1, op.1) in
+          let gives : IfSome (reply new b) (λ s. s ≡ reply_on op.0 keys) =
+          rw (← e) at (own_gives keys op.0 (rw one at own.2)) in
+          IsSomeAnd-of (op_at program b.thread b.index) (Given new keys b rest) op.0 op.1 (
+            gives,
+            rest_gives (keys_after op.0 keys) rest
+                (λ c among. rw e at (AllPairs-first (λ x y. x ≢ y) b rest distinct c among)) op.2.1,
+          )
       by false other again =
           let elsewhere : listed_in rest a ≡ true = ap (λ s. s || listed_in rest a) (sym other) ∙ listed in
           IsSomeAnd-of (op_at program b.thread b.index) (Given new keys b rest) op.0 op.1 (
@@ -172,12 +168,9 @@ module _ (program : Program) (old new : History) (a : OpId) (r : Bool) (is : Has
           → reply_in program keys (b ∷ rest) a ≡ Some r
       by true same again =
           let e : b ≡ a = same_name-is b a same in
-          let at : op_at program a.thread a.index ≡ Some op.0 =
-          subst (λ c. op_at program c.thread c.index ≡ Some op.0) e op.1 in
-          let own : IfSome (reply new a) (λ s. s ≡ reply_on op.0 keys) =
-          subst (λ c. IfSome (reply new c) (λ s. s ≡ reply_on op.0 keys)) e op.2.0 in
-          let stated : r ≡ reply_on op.0 keys = subst (λ v. IfSome v (λ s. s ≡ reply_on op.0 keys)) is.replied own in
-          at_head program a keys b rest same ∙ telling (op_at program a.thread a.index) op.0 keys r at stated
+          let own : IfSome (reply new a) (λ s. s ≡ reply_on op.0 keys) = rw (← e) op.2.0 in
+          at_head program a keys b rest same
+          ∙ telling (op_at program a.thread a.index) op.0 keys r (cc (e, op.1)) (rw is.replied at own)
       by false other again =
           let elsewhere : listed_in rest a ≡ true = ap (λ s. s || listed_in rest a) (sym other) ∙ listed in
           past_head program a keys b rest op.0 other op.1 ∙ again (keys_after op.0 keys) elsewhere op.2.1
@@ -187,7 +180,7 @@ module _ (program : Program) (old new : History) (a : OpId) (r : Bool) (is : Has
   given_after keys [] none given =
       let op = IsSomeAnd-value (op_at program a.thread a.index) (Given new keys a []) given in
       telling (op_at program a.thread a.index) op.0 keys r op.1
-      (subst (λ v. IfSome v (λ s. s ≡ reply_on op.0 keys)) is.replied op.2.0)
+      (rw is.replied at op.2.0)
   given_after keys (b ∷ rest) none given =
       let op = IsSomeAnd-value (op_at program b.thread b.index) (Given new keys b (rest ++ a ∷ [])) given in
       let pieces = or_parts (same_name b a) (listed_in rest a) none in
@@ -199,7 +192,7 @@ module _ (program : Program) (old new : History) (a : OpId) (r : Bool) (is : Has
     where
       by : (o : Option (List ℕ)) → value_at old.begun b ≡ o → IsSome o → IsBegun new b
       by None e some = absurd (true≢false (sym some))
-      by (Some note) e some = subst IsSome (sym (is.begun b note e)) refl
+      by (Some note) e some = rw (is.begun b note e) refl
 
   ended_back : (x b : OpId) → IsBegun old b → EndedBefore new x b → EndedBefore old x b
   ended_back x b h ended = by (value_at old.begun b) refl h
@@ -207,19 +200,19 @@ module _ (program : Program) (old new : History) (a : OpId) (r : Bool) (is : Has
       by : (o : Option (List ℕ)) → value_at old.begun b ≡ o → IsSome o
           → IsSomeAnd o (λ note. x.index < slice_index note x.thread)
       by None e some = absurd (true≢false (sym some))
-      by (Some note) e some = subst (λ v. IsSomeAnd v (λ n. x.index < slice_index n x.thread)) (is.begun b note e) ended
+      by (Some note) e some = rw (is.begun b note e) at ended
 
   module _ (order : List OpId) (was : IsLinearization program old order) where
     begun_at : (j : ℕ) (b : OpId) → slice_get order j ≡ Some b → IsBegun old b
     begun_at j b at =
-        subst (IsBegun old) (get_or_from_slice_get order j b b at) (was.begun j b (slice_get_within order j b at))
+        rw (get_or_from_slice_get order j b b at) at (was.begun j b (slice_get_within order j b at))
 
     finished : (b : OpId) → IsSome (reply new b) → Contains order b ⊎ (a ≡ b)
     finished b h = by (same_name a b) refl
       where
         by : (s : Bool) → same_name a b ≡ s → Contains order b ⊎ (a ≡ b)
         by true same = inr (same_name-is a b same)
-        by false other = inl (was.complete b (subst IsSome (is.others b (λ e. differ b a other (sym e))) h))
+        by false other = inl (was.complete b (rw (is.others b (λ e. differ b a other (sym e))) at h))
 
     linear_within : listed_in order a ≡ true → reply_in program (keys_of program.initial) order a ≡ Some r
         → IsLinearization program new order
@@ -229,8 +222,7 @@ module _ (program : Program) (old new : History) (a : OpId) (r : Bool) (is : Has
       complete =
           λ b h. elim (finished b h) [
             | inl among ↦ among
-            | inr same
-                ↦ subst (Contains order) same (listed_here order a listed)
+            | inr same ↦ rw same at (listed_here order a listed)
           ];
       in_time = λ i j x b at_i at_j ended. was.in_time i j x b at_i at_j (ended_back x b (begun_at j b at_j) ended);
       replies = gives_within (keys_of program.initial) order was.distinct listed was.replies stated;
@@ -246,8 +238,7 @@ module _ (program : Program) (old new : History) (a : OpId) (r : Bool) (is : Has
       complete =
           λ b h. elim (finished b h) [
             | inl among ↦ Contains-append_left order (a ∷ []) b among
-            | inr same
-                ↦ subst (Contains (order ++ a ∷ [])) same (Contains-push order a)
+            | inr same ↦ rw (← same) (Contains-push order a)
           ];
       in_time = places;
       replies = gives_after (keys_of program.initial) order none was.replies stated;
@@ -257,7 +248,7 @@ module _ (program : Program) (old new : History) (a : OpId) (r : Bool) (is : Has
             → slice_get (order ++ a ∷ []) j ≡ Some b → EndedBefore new x b → i < j
         places i j x b at_i at_j ended =
             elim (push_cases order a i x at_i) [
-              | inr own ↦ absurd (is.last b (subst (λ c. EndedBefore new c b) (sym own.1) ended))
+              | inr own ↦ absurd (is.last b (rw own.1 ended))
               | inl first ↦ elim (push_cases order a j b at_j) [
                 | inl second ↦ was.in_time i j x b first second (ended_back x b (begun_at j b second) ended)
                 | inr own ↦ omega (arith, slice_get_within order i x first, own.0)
@@ -293,12 +284,10 @@ module _ (program : Program) (limits : IsWithinLimits program) (order : List OpI
       × ((old new : History) → HasReplied old new a r → IsLinearization program old order
       → IsLinearization program new longer))
   answer_means None long stated =
-      λ old new is was now. let bounded : length (ending_with order a) ≤ 12 =
-      at_most_twelve program limits new (ending_with order a) now in omega arith
+      λ old new is was now. omega (arith, at_most_twelve program limits new (ending_with order a) now)
   answer_means (Some longer) same stated = (
     same,
-    λ old new is was. subst (IsLinearization program new) (sym same)
-        (reply_keeps program old new a r is order was stated),
+    λ old new is was. rw same (reply_keeps program old new a r is order was stated),
   )
 
 pub same_answer : (stated r : Bool) → beq stated r ≡ true → stated ≡ r

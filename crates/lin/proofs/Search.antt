@@ -1,6 +1,6 @@
 -- What a search place by place knows of the operations that it tried.
 use Rattle.std.proofs.Common.{◌≡◌, ℕ, ◌+◌, ◌<◌, ◌≤◌, ◌||◌, inl, inr, Bool, true, false, cond, true≢false, List, [], ◌∷◌}
-use Rattle.std.proofs.Common.{◌++◌, length, Option, Some, None, IsSome, refl, sym, ◌∙◌, ap, arith, subst, subst₂}
+use Rattle.std.proofs.Common.{◌++◌, length, Option, Some, None, IsSome, refl, sym, ◌∙◌, ap, arith}
 use Rattle.std.proofs.Common.{append_assoc}
 use Rattle.std.proofs.lemmas.Bool.{or_right}
 use mathlib.Core.Path.{fun_ext}
@@ -69,11 +69,10 @@ module _ {V : Type 0} (listed : Listed) (a : OpId) where
           → (IsSome (value_at xs a) → unlisted_count (with_name listed a) xs < unlisted_count listed xs)
           → unlisted_count (with_name listed a) (x ∷ xs) < unlisted_count listed (x ∷ xs)
       by_name true e some rest =
-          let is : a ≡ x.0 = sym (same_name-is x.0 a e) in
-          let before : weight (listed x.0) ≡ 1 = subst (λ b. weight (listed b) ≡ 1) is (ap weight new) in
+          let is : x.0 ≡ a = same_name-is x.0 a e in
+          let before : weight (listed x.0) ≡ 1 = rw (is, new) in
           let after : weight (listed x.0 || same_name a x.0) ≡ 0 =
-          subst (λ b. weight (listed x.0 || same_name a b) ≡ 0) is
-          (ap (λ s. weight (listed x.0 || s)) (same_name_self a) ∙ weight_listed (listed x.0)) in
+          rw (is, same_name_self a) (weight_listed (listed a)) in
           omega (arith, unlisted_le xs, before, after)
       by_name false e some rest = omega (arith, rest some, weight_falls (listed x.0) (same_name a x.0))
 
@@ -82,22 +81,21 @@ module _ (program : Program) (history : History) (order before pushed : List OpI
     (a : OpId) (are : listed ≡ listed_in order) (stands_next : StandsNext program history listed keys a next)
     (same : before ≡ order) (push : pushed ≡ before ++ a ∷ []) where
   stands : StandsNext program history (listed_in order) keys a next
-  stands = subst (λ l. StandsNext program history l keys a next) are stands_next
+  stands = rw are at stands_next
 
   pushed_is : pushed ≡ order ++ a ∷ []
-  pushed_is = push ∙ ap (λ o. o ++ a ∷ []) same
+  pushed_is = rw same at push
 
   listed_pushed : listed_in pushed ≡ with_name (listed_in order) a
-  listed_pushed = ap listed_in pushed_is ∙ listed_push order a
+  listed_pushed = rw (pushed_is, listed_push order a)
 
   -- fewer entries have a name that is not listed, and these operations are listed
   pub once_pushed : (after : Listed) → after ≡ with_name listed a
       → (unlisted_count (listed_in pushed) history.begun < unlisted_count (listed_in order) history.begun)
       × (after ≡ listed_in pushed)
   once_pushed after is = (
-    subst (λ l. unlisted_count l history.begun < unlisted_count (listed_in order) history.begun) (sym listed_pushed)
-        (unlisted_falls (listed_in order) a history.begun stands.new stands.begun),
-    is ∙ ap (λ l. with_name l a) are ∙ sym listed_pushed,
+    rw listed_pushed (unlisted_falls (listed_in order) a history.begun stands.new stands.begun),
+    is ∙ (λ j. with_name (are j) a) ∙ sym listed_pushed,
   )
 
   -- what may follow with this operation in front may follow
@@ -106,8 +104,8 @@ module _ (program : Program) (history : History) (order before pushed : List OpI
       → (rest : List OpId) × (whole ≡ order ++ rest) × Completes program history (listed_in order) keys rest
   found_more whole found = (
     a ∷ found.0,
-    found.1 ∙ ap (λ o. o ++ found.0) pushed_is ∙ append_assoc order (a ∷ []) found.0,
-    (next, stands, subst (λ l. Completes program history l next found.0) listed_pushed found.2),
+    rw (pushed_is, append_assoc order (a ∷ []) found.0) at found.1,
+    (next, stands, rw listed_pushed at found.2),
   )
 
   -- no list with this operation in front completes if nothing may follow it
@@ -115,8 +113,7 @@ module _ (program : Program) (history : History) (order before pushed : List OpI
       → Completes program history (listed_in order) keys (a ∷ rest) → ⊥
   not_after none rest c =
       let e = StandsNext-same program history (listed_in order) keys c.0 next a c.1 stands in
-      let moved = subst (λ k. Completes program history (with_name (listed_in order) a) k rest) e c.2 in
-      none rest (subst (λ l. Completes program history l next rest) (sym listed_pushed) moved)
+      none rest (rw (listed_pushed, ← e) c.2)
 
 module _ (program : Program) (history : History) where
   -- no list with an operation in front completes if another must come first
@@ -141,15 +138,12 @@ module _ (program : Program) (history : History) where
       → (rest : List OpId) × (order ≡ empty ++ rest) × Completes program history (listed_in empty) keys rest
       → IsLinearization program history order
   found_linearization empty order keys e k found =
-      let whole : order ≡ found.0 = found.1 ∙ ap (λ o. o ++ found.0) e in
-      let C : List OpId → Keys → Type 0 = λ o s. Completes program history (listed_in o) s found.0 in
-      subst (IsLinearization program history) (sym whole)
-      (Completes-linearization program history found.0 (subst₂ C e k found.2))
+      let whole : order ≡ found.0 = rw e at found.1 in
+      rw whole (Completes-linearization program history found.0 (rw (← e, ← k) found.2))
 
   -- and where nothing completes it there is none
   pub none_linearization : (empty : List OpId) (keys : Keys) → empty ≡ [] → keys ≡ keys_of program.initial
       → IsHopeless program history (listed_in empty) keys → (order : List OpId) → IsLinearization program history order
       → ⊥
   none_linearization empty keys e k none order linearization =
-      let H : List OpId → Keys → Type 0 = λ o s. IsHopeless program history (listed_in o) s in
-      subst₂ H e k none order (IsLinearization-completes program history order linearization)
+      none order (rw (e, k) (IsLinearization-completes program history order linearization))

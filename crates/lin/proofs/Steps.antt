@@ -1,6 +1,6 @@
 -- Whether an operation may come next, from sets of operations.
 use Rattle.std.proofs.Common.{◌≡◌, ◌&&◌, ◌||◌, Bool, true, false, true≢false, List, [], ◌∷◌, IsSome, MatchBool, ◌↔◌}
-use Rattle.std.proofs.Common.{Option, Some, IfSome, IsSomeAnd, inl, inr, refl, sym, ◌∙◌, ap, subst}
+use Rattle.std.proofs.Common.{Option, Some, IfSome, inl, inr, refl, sym, ◌∙◌, ap}
 use Rattle.std.proofs.lemmas.Bool.{or_cases, or_parts, or_left, or_right, and_parts}
 use Rattle.sched_program.specs.declared.operation.OpId.{OpId}
 use Rattle.sched_program.specs.declared.operation.Op.{Op}
@@ -27,10 +27,7 @@ module _ (history : History) (listed barred before : Listed) (name : OpId) (has 
         pieces.0,
         λ b among ended. elim (or_cases (listed b) (same_name name b) among) [
           | inl earlier ↦ true≢false (sym ((barred_are name has).1 (b, earlier, ended)) ∙ pieces.1)
-          | inr same
-              ↦ true≢false
-              (sym ((before_are name has).1 (subst (EndedBefore history name) (sym (same_name-is name b same)) ended))
-              ∙ sets.1)
+          | inr same ↦ true≢false (sym ((before_are name has).1 (rw (← same_name-is name b same) at ended)) ∙ sets.1)
         ],
       )
 
@@ -60,7 +57,7 @@ module _ (history : History) (listed barred before : Listed) (name : OpId) (has 
         itself : same_name name a ≡ true → EndedBefore history a name → ⊥
         itself same ended =
             c.1.in_time name (or_right (listed name) (same_name name name) (same_name_self name))
-            (subst (λ b. EndedBefore history b name) (sym (same_name-is name a same)) ended)
+            (rw (← same_name-is name a same) at ended)
 
         missing : (b : Bool) → same_name name a ≡ b → listed a ≡ false → IsSome (reply history a)
             → EndedBefore history a name → ⊥
@@ -86,7 +83,7 @@ barred_more history listed barred before name barred_are before_are a has = (
   λ ended. elim (or_cases (listed ended.0) (same_name name ended.0) ended.1) [
     | inl earlier ↦ or_left (barred a) (before a) ((barred_are a has).1 (ended.0, earlier, ended.2))
     | inr same ↦ or_right (barred a) (before a)
-        ((before_are a has).1 (subst (EndedBefore history a) (sym (same_name-is name ended.0 same)) ended.2))
+        ((before_are a has).1 (rw (same_name-is name ended.0 same) ended.2))
   ],
 )
 
@@ -115,10 +112,5 @@ stands program history listed keys next name o given stated begun due is given_i
   begun = begun;
   new = due.0;
   in_time = due.1;
-  gives = subst (λ found. IsSomeAnd found (λ p. IfSome (reply history name) (λ r. r ≡ reply_on p keys)
-      × (next ≡ keys_after p keys))) is (
-        subst (λ g. IfSome g (λ x. x ≡ reply_on o keys)) given_is
-            (subst (λ r. IfSome given (λ x. x ≡ r)) reply_is replies),
-        after,
-      );
+  gives = rw (← is) (rw (← given_is, ← reply_is) replies, after);
 }

@@ -1,7 +1,7 @@
 -- What is in the table of a history.
 use Rattle.std.proofs.Common.{◌≡◌, ◌≢◌, ℕ, suc, ◌+◌, ◌-◌, ◌<◌, ◌≤◌, ◌&&◌, ◌||◌, Bool, true, false, eqb, ltb, eqb-true}
 use Rattle.std.proofs.Common.{cond, lt-ltb, ltb-true, List, [], ◌∷◌, length, get_or, set, take, drop}
-use Rattle.std.proofs.Common.{Option, Some, None, IsSome, IsSomeAnd, ◌↔◌, IfSome, refl, sym, ◌∙◌, ap, ap₂, subst, arith}
+use Rattle.std.proofs.Common.{Option, Some, None, IsSome, IsSomeAnd, ◌↔◌, IfSome, refl, sym, ◌∙◌, ap, ap₂, arith}
 use Rattle.std.proofs.Common.{true≢false}
 use Rattle.std.specs.Prelude.{slice_index}
 use Rattle.std.proofs.lemmas.List.{get_or_default, get_or_past, get_or-set_other, drop_more, take_more}
@@ -25,7 +25,7 @@ counted_before note i = λ a. ltb a.index 8 && (ltb a.thread i && ltb a.index (s
 
 module _ (note : List ℕ) where
   none : (l : Bool) (t n : ℕ) → (l && (ltb t 0 && ltb n (slice_index note t))) ≡ false
-  none true t n = ap (λ b. b && ltb n (slice_index note t)) (let e : ltb t 0 ≡ false = grind (arith, nat_tests) in e)
+  none true t n = let e : ltb t 0 ≡ false = grind (arith, nat_tests) in rw e
   none false t n = refl
 
   pub counted_none : listed_in [] ≡ counted_before note 0
@@ -40,19 +40,16 @@ module _ (note : List ℕ) where
         let is : t ≡ i = eqb-true t i e in
         let not_below : ltb t i ≡ false = grind (arith, nat_tests) in
         let below : ltb t (i + 1) ≡ true = lt-ltb t (i + 1) (omega arith) in
-        ap (λ b. (b && ltb n (slice_index note t)) || ltb n (get_or note i d)) not_below
-        ∙ ap (ltb n) (get_or_default note i d 0 within ∙ ap (λ k. get_or note k 0) (sym is))
-        ∙ ap (λ b. b && ltb n (slice_index note t)) (sym below)
+        rw (not_below, below, get_or_default note i d 0 within, is)
     step t n true false e =
         let same : ltb t i ≡ ltb t (i + 1) = grind (arith, nat_tests) in
-        or-false (ltb t i && ltb n (slice_index note t)) ∙ ap (λ b. b && ltb n (slice_index note t)) same
+        rw (or-false (ltb t i && ltb n (slice_index note t)), same)
 
     pub counted_more : (next : Listed) → next
         ≡ (λ a. ltb a.index 8 && (eqb a.thread i && ltb a.index (get_or note i d)))
         → (λ a. counted_before note i a || next a) ≡ counted_before note (i + 1)
     counted_more next e =
-        fun_ext (λ a. ap (λ f. counted_before note i a || f a) e
-        ∙ step a.thread a.index (ltb a.index 8) (eqb a.thread i) refl)
+        rw e (fun_ext (λ a. step a.thread a.index (ltb a.index 8) (eqb a.thread i) refl))
 
   past : (i : ℕ) → length note ≤ i → (t n : ℕ) (l b : Bool) → ltb t i ≡ b
       → (l && (b && ltb n (slice_index note t))) ≡ (l && ltb n (slice_index note t))
@@ -60,7 +57,7 @@ module _ (note : List ℕ) where
   past i over t n true false h =
       let none_left : slice_index note t ≡ 0 =
       get_or_past note t 0 (let not_below : i ≤ t = grind (arith, nat_tests) in omega arith) in
-      sym (ap (ltb n) none_left ∙ (let e : ltb n 0 ≡ false = grind (arith, nat_tests) in e))
+      let e : ltb n 0 ≡ false = grind (arith, nat_tests) in rw (none_left, e)
   past i over t n false false h = refl
 
   pub counted_all : (i : ℕ) → length note ≤ i → counted_before note i ≡ counted note
@@ -81,11 +78,10 @@ module _ {V T : Type 0} (P : Option V → T → Type 0) where
           → P (cond b (Some x.1) (value_at rest a)) (get_or (set table place t) (place_of a) d)
       by_name true same =
           let is : x.0 ≡ a = same_name-is x.0 a same in
-          let at : place_of a ≡ place = sym (e ∙ ap place_of is) in
-          subst (P (Some x.1)) (sym (get_or-set_at table place (place_of a) t d at within)) here
+          rw (get_or-set_at table place (place_of a) t d (rw (e, is)) within) here
       by_name false differs =
           let other : place_of a ≢ place = λ at. places_differ x.0 a has.1 has_a.1 differs (at ∙ e) in
-          subst (P (value_at rest a)) (sym (get_or-set_other table place (place_of a) t d other)) (before a d has_a)
+          rw (get_or-set_other table place (place_of a) t d other) (before a d has_a)
 
   -- holds with the entry before those that are left of a list, once the table has its value
   pub holds_before : (entries : List (OpId × V)) (i : ℕ) (x d : OpId × V) (table : List T) (place : ℕ) (t : T) → 0 < i
@@ -94,9 +90,7 @@ module _ {V T : Type 0} (P : Option V → T → Type 0) where
       → HoldsAtPlaces (drop i entries) table → HoldsAtPlaces (drop (i - 1) entries) (set table place t)
   holds_before entries i x d table place t some within is has e in_table here before =
       let next : i - 1 + 1 ≡ i = omega arith in
-      let cut : drop (i - 1) entries ≡ x ∷ drop i entries =
-      drop_more entries (i - 1) d (omega arith) ∙ ap₂ (λ y k. y ∷ drop k entries) (sym is) next in
-      subst (λ xs. HoldsAtPlaces xs (set table place t)) (sym cut)
+      rw (drop_more entries (i - 1) d (omega arith), ← is, next)
       (holds_with x (drop i entries) table place t has e in_table here before)
 
 -- the operations of a history have places
@@ -104,8 +98,7 @@ module _ (history : History) (events : IsHistory history) where
   pub begun_has_place : (entries : List (OpId × List ℕ)) (i : ℕ) (d : OpId × List ℕ) → entries ≡ history.begun
       → i < length entries → HasPlace (get_or entries i d).0
   begun_has_place entries i d e within =
-      let small = events.names i d (subst (λ xs. i < length xs) e within) in
-      subst (λ xs. HasPlace (get_or xs i d).0) (sym e) (small.0, omega (arith, small.1))
+      let small = events.names i d (rw e at within) in rw e (small.0, omega (arith, small.1))
 
   -- the finished operations have places, since they began
   of_each : {V : Type 0} (P : OpId → Type 0) (entries : List (OpId × V)) (a : OpId)
@@ -116,7 +109,7 @@ module _ (history : History) (events : IsHistory history) where
     where
       by_name : (b : Bool) → same_name x.0 a ≡ b → IsSome (cond b (Some x.1) (value_at xs a))
           → (IsSome (value_at xs a) → P a) → P a
-      by_name true same h later = subst P (same_name-is x.0 a same) (each 0 x (omega arith))
+      by_name true same h later = rw (← same_name-is x.0 a same) (each 0 x (omega arith))
       by_name false differs h later = later h
 
   begun_places : (i : ℕ) (d : OpId × List ℕ) → i < length history.begun → HasPlace (get_or history.begun i d).0
@@ -125,16 +118,14 @@ module _ (history : History) (events : IsHistory history) where
   pub finished_has_place : (entries : List (OpId × Bool)) (i : ℕ) (d : OpId × Bool) → entries ≡ history.finished
       → i < length entries → HasPlace (get_or entries i d).0
   finished_has_place entries i d e within =
-      let begun = events.finished_are_begun i d (subst (λ xs. i < length xs) e within) in
-      subst (λ xs. HasPlace (get_or xs i d).0) (sym e)
-      (of_each HasPlace history.begun (get_or history.finished i d).0 begun_places begun)
+      rw e (of_each HasPlace history.begun (get_or history.finished i d).0 begun_places
+      (events.finished_are_begun i d (rw e at within)))
 
 -- one more entry is among the finished ones
 pub finished_more : (items : List (OpId × Bool)) (i : ℕ) (d : OpId × Bool) → i < length items
     → with_name (finished_in (take i items)) (get_or items i d).0 ≡ finished_in (take (i + 1) items)
 finished_more items i d within =
-    fun_ext (λ a. sym (is_some_push (take i items) (get_or items i d) a))
-    ∙ ap finished_in (sym (take_more items i d within))
+    rw (take_more items i d within) (fun_ext (λ a. sym (is_some_push (take i items) (get_or items i d) a)))
 
 says : (o : Option (List ℕ)) (set : OpSet) → IsSome o → IfSome o (λ note. operations_in set ≡ counted note) → (a : OpId)
     → HasPlace a
@@ -153,8 +144,7 @@ pub set_says : (history : History) (sets : List OpSet) → AreSetsBefore history
     → (operations_in (get_or sets k d) a ≡ true) ↔ EndedBefore history a name
 set_says history sets are name begun has k d e =
     says (value_at history.begun name) (get_or sets k d) begun
-    (subst (λ j. IfSome (value_at history.begun name) (λ note. operations_in (get_or sets j d) ≡ counted note))
-    (sym e) (are name d has))
+    (rw e (are name d has))
 
 -- a finished operation has a place
 pub finished_placed : (history : History) → IsHistory history → (a : OpId) → IsSome (reply history a) → HasPlace a

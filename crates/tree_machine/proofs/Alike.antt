@@ -1,16 +1,16 @@
 -- Alike states: the same threads of theirs have steps, their steps are alike, and so are their findings.
 use Rattle.std.proofs.Common.{◌≡◌, ℕ, List, [], ◌∷◌, ◌++◌, length, map, Bool, Option, Some, None, is_some, refl, sym}
-use Rattle.std.proofs.Common.{ap, ◌∙◌, subst, slice_get, ◌↔◌, if◌then◌else◌, true}
+use Rattle.std.proofs.Common.{ap, ◌∙◌, slice_get, ◌↔◌}
 use Rattle.std.specs.Prelude.{IsTrue, IsSomeAnd}
 use Rattle.std.specs.List.{AllZip}
-use Rattle.sched_program.specs.Program.{Program, op_at, after_at}
+use Rattle.sched_program.specs.Program.{Program}
 use Rattle.sched_program.specs.declared.operation.Op.{Op}
 use Rattle.tree_machine.specs.Alike.{places_of, replies_of, notes_of, AreStatesAlike}
-use Rattle.tree_machine.specs.History.{all_named, history_of}
-use Rattle.tree_machine.specs.Pairing.{Pairing, Extends, AreHeldPaired, AreStepsPaired, ArePairsLawful}
+use Rattle.tree_machine.specs.History.{history_of}
+use Rattle.tree_machine.specs.Pairing.{Pairing, AreHeldPaired, AreStepsPaired, ArePairsLawful}
 use Rattle.tree_machine.specs.Rules.{Rules, AreLawful}
 use Rattle.tree_machine.specs.Step.{finished_counts, place_or, notes_at_step, at_step, after_access, stepped, step}
-use Rattle.tree_machine.specs.Step.{is_met, next_op, ready, IsEnabled}
+use Rattle.tree_machine.specs.Step.{next_op, ready, IsEnabled}
 use Rattle.tree_machine.specs.declared.machine.Outcome.{Outcome}
 use Rattle.tree_machine.specs.declared.machine.Outcome.TheVariants.{Goes, Replies, Astray}
 use Rattle.tree_machine.specs.declared.state.Thread.{Thread}
@@ -40,12 +40,11 @@ module _ {Place : Type 0} where
       → AllZip (AreHeldPaired P) (places_of xs) (places_of ys)
       → replies_of xs ≡ replies_of ys → notes_of xs ≡ notes_of ys → AllZip (AreThreadsPaired P) xs ys
   threads_zip P [] [] z r n = tt
-  threads_zip P [] (y ∷ ys) z r n = absurd z
-  threads_zip P (x ∷ xs) [] z r n = absurd z
   threads_zip P (x ∷ xs) (y ∷ ys) z r n =
       let replies = cons_same x.replies y.replies (replies_of xs) (replies_of ys) r in
       let notes = cons_same x.notes y.notes (notes_of xs) (notes_of ys) n in
       (record { place = z.0; replies = replies.0; notes = notes.0 }, threads_zip P xs ys z.1 replies.1 notes.1)
+  threads_zip P _ _ z r n = absurd z
 
   zip_places : (P : Place → Place → Type 0) (xs ys : List (Thread Place)) → AllZip (AreThreadsPaired P) xs ys
       → AllZip (AreHeldPaired P) (places_of xs) (places_of ys)
@@ -57,20 +56,21 @@ module _ {Place : Type 0} where
       → (xs ys : List (Thread Place)) → AllZip (AreThreadsPaired P) xs ys → map read xs ≡ map read ys
   zip_read read P h xs ys z = same_maps (AreThreadsPaired P) read read h xs ys z
 
+  zip_counts : (P : Place → Place → Type 0) (xs ys : List (Thread Place)) → AllZip (AreThreadsPaired P) xs ys
+      → finished_counts xs ≡ finished_counts ys
+  zip_counts P xs ys z = zip_read (λ x. length x.replies) P (λ x y k. ap length k.replies) xs ys z
+
   place_or_paired : (P : Place → Place → Type 0) (held twin : Option Place) (first : Place) → P first first
       → AreHeldPaired P held twin → P (place_or held first) (place_or twin first)
   place_or_paired P None None first f k = f
-  place_or_paired P None (Some y) first f k = absurd k
-  place_or_paired P (Some x) None first f k = absurd k
   place_or_paired P (Some x) (Some y) first f k = k
+  place_or_paired P _ _ first f k = absurd k
 
-  notes_paired : (P : Place → Place → Type 0) (held twin : Option Place) (notes others : List (List ℕ))
-      (counts : List ℕ) → AreHeldPaired P held twin → notes ≡ others
-      → notes_at_step held notes counts ≡ notes_at_step twin others counts
-  notes_paired P None None notes others counts k h = ap (λ n. n ++ counts ∷ []) h
-  notes_paired P None (Some y) notes others counts k h = absurd k
-  notes_paired P (Some x) None notes others counts k h = absurd k
-  notes_paired P (Some x) (Some y) notes others counts k h = h
+  notes_paired : (P : Place → Place → Type 0) (held twin : Option Place) (notes : List (List ℕ)) (counts : List ℕ)
+      → AreHeldPaired P held twin → notes_at_step held notes counts ≡ notes_at_step twin notes counts
+  notes_paired P None None notes counts k = refl
+  notes_paired P (Some x) (Some y) notes counts k = refl
+  notes_paired P _ _ notes counts k = absurd k
 
 module _ {Machine Memory Place Form : Type 0} (rules : Rules Memory Place) where
   -- states of paired memories and threads
@@ -90,31 +90,27 @@ module _ {Machine Memory Place Form : Type 0} (rules : Rules Memory Place) where
   module _ (state twin : State Machine Memory Place Form) where
     after_alike : (p : Pairing) (t : ℕ) (thread other : Thread Place) (memory changed : Memory)
         (outcome result : Outcome Place)
-        → ((q : Pairing) (x y : Place) → Extends p q → rules.pairs.places p x y → rules.pairs.places q x y)
         → rules.pairs.memories p state.memory twin.memory
         → AllZip (AreThreadsPaired (rules.pairs.places p)) state.threads twin.threads
         → AreThreadsPaired (rules.pairs.places p) thread other
-        → AreStepsPaired rules.pairs p (memory, outcome) (changed, result)
+        → (both : AreStepsPaired rules.pairs p (memory, outcome) (changed, result))
+        → AllZip (AreThreadsPaired (rules.pairs.places both.then)) state.threads twin.threads
         → AreStatesAlike rules (after_access state t thread (memory, outcome))
         (after_access twin t other (changed, result))
-    after_alike p t thread other memory changed (Goes goal) (Goes next) extend h z k both =
+    after_alike p t thread other memory changed (Goes goal) (Goes next) h z k both more =
         from_threads both.then memory changed _ _ _ _ None both.memories_paired
-        (zip_set _ state.threads twin.threads t _ _
-        (AllZip-weaker _ _ (threads_weaker _ _ (λ x y. extend both.then x y both.extends)) state.threads twin.threads
-        z)
+        (zip_set _ state.threads twin.threads t _ _ more
         (record { place = both.outcomes_paired; replies = k.replies; notes = k.notes }))
-    after_alike p t thread other memory changed (Replies reply) (Replies answer) extend h z k both =
+    after_alike p t thread other memory changed (Replies reply) (Replies answer) h z k both more =
         let same : reply ≡ answer = both.outcomes_paired in
         let replies = k.replies in
         from_threads both.then memory changed _ _ _ _ None both.memories_paired
-        (zip_set _ state.threads twin.threads t _ _
-        (AllZip-weaker _ _ (threads_weaker _ _ (λ x y. extend both.then x y both.extends)) state.threads twin.threads
-        z)
+        (zip_set _ state.threads twin.threads t _ _ more
         (record { place = tt; replies = λ i. replies i ++ same i ∷ []; notes = k.notes }))
-    after_alike p t thread other memory changed Astray Astray extend h z k both =
+    after_alike p t thread other memory changed Astray Astray h z k both more =
         from_threads p state.memory twin.memory _ _ _ _ (Some t) h
         (zip_set _ state.threads twin.threads t thread other z k)
-    after_alike p t thread other memory changed _ _ extend h z k both = absurd both.outcomes_paired
+    after_alike p t thread other memory changed _ _ h z k both more = absurd both.outcomes_paired
 
     -- the steps of two paired threads
     stepped_alike : ArePairsLawful rules.pairs rules.first rules.act rules.IsOrdered → (p : Pairing)
@@ -124,43 +120,30 @@ module _ {Machine Memory Place Form : Type 0} (rules : Rules Memory Place) where
         → AreThreadsPaired (rules.pairs.places p) thread other
         → AreStatesAlike rules (stepped rules state t op thread) (stepped rules twin t op other)
     stepped_alike lawful p h z t op thread other k =
-        let first = lawful.first_paired op p state.memory twin.memory h in
-        let place = place_or_paired (rules.pairs.places p) thread.place other.place (rules.first op) first k.place in
-        let counts : finished_counts state.threads ≡ finished_counts twin.threads =
-        zip_read (λ x. length x.replies) _ (λ x y paired. ap length paired.replies) state.threads twin.threads z in
-        let acted = rules.act op (place_or thread.place (rules.first op)) state.memory in
-        let matched = rules.act op (place_or other.place (rules.first op)) twin.memory in
-        after_alike p t (at_step rules state op thread) (at_step rules twin op other) acted.0 matched.0 acted.1
-        matched.1
-        (λ q x y. lawful.places_extend p q x y) h z
+        let place =
+        place_or_paired (rules.pairs.places p) thread.place other.place (rules.first op)
+        (lawful.first_paired op p state.memory twin.memory h) k.place in
+        let both = lawful.act_paired op p _ _ state.memory twin.memory h place in
+        after_alike p t (at_step rules state op thread) (at_step rules twin op other) _ _ _ _ h z
         (record {
           place = place;
           replies = k.replies;
-          notes = notes_paired (rules.pairs.places p) thread.place other.place thread.notes other.notes
-              (finished_counts state.threads) k.place k.notes
-              ∙ ap (λ n. notes_at_step other.place other.notes n) counts;
-        })
-        (lawful.act_paired op p (place_or thread.place (rules.first op)) (place_or other.place (rules.first op))
-        state.memory twin.memory h place)
+          notes = rw (k.notes, zip_counts _ state.threads twin.threads z)
+              (notes_paired (rules.pairs.places p) thread.place other.place other.notes _ k.place);
+        }) both
+        (AllZip-weaker _ _ (threads_weaker _ _ (λ x y. lawful.places_extend p both.then x y both.extends))
+        state.threads twin.threads z)
 
     threads_paired : (alike : AreStatesAlike rules state twin)
         → AllZip (AreThreadsPaired (rules.pairs.places alike.paired.0)) state.threads twin.threads
     threads_paired alike = threads_zip _ state.threads twin.threads alike.paired.2 alike.replies alike.notes
-
-    counts_alike : AreStatesAlike rules state twin → finished_counts state.threads ≡ finished_counts twin.threads
-    counts_alike alike =
-        zip_read (λ x. length x.replies) _ (λ x y paired. ap length paired.replies) state.threads twin.threads
-        (threads_paired alike)
 
     -- paired threads are in the same operation, or may begin the same next
     next_same : (P : Place → Place → Type 0) (program : Program) (t : ℕ) (counts others : List ℕ)
         (thread other : Thread Place) → counts ≡ others → AreThreadsPaired P thread other
         → next_op program counts t thread ≡ next_op program others t other
     next_same P program t counts others thread other c k =
-        let held = held_are_some P thread.place other.place k.place in
-        let replies = k.replies in
-        λ i. if (if held i then true else is_met (c i) (after_at program t (length (replies i)))) then op_at program t
-        (length (replies i)) else None
+        rw (held_are_some P thread.place other.place k.place, k.replies, c) refl
 
     -- in alike states the threads that have a step are the same, each with the same operation
     ready_alike : (alike : AreStatesAlike rules state twin) → (program : Program) (t : ℕ)
@@ -174,8 +157,7 @@ module _ {Machine Memory Place Form : Type 0} (rules : Rules Memory Place) where
         (λ op same is. (k, is)) (next_op program (finished_counts state.threads) t thread)
         (next_op program (finished_counts twin.threads) t other)
         (held_same _ _
-        (next_same _ program t (finished_counts state.threads) (finished_counts twin.threads) thread other
-        (counts_alike alike) k)))
+        (next_same _ program t _ _ thread other (zip_counts _ _ twin.threads (threads_paired alike)) k)))
         (slice_get state.threads t) (slice_get twin.threads t)
         (zip_get _ state.threads twin.threads t (threads_paired alike)))
 
@@ -186,7 +168,7 @@ module _ {Machine Memory Place Form : Type 0} (rules : Rules Memory Place) where
         map_paired (AreStatesAlike rules)
         (λ (x y : Thread Place × Op). AreThreadsPaired (rules.pairs.places alike.paired.0) x.0 y.0 × (x.1 ≡ y.1)) _
         _
-        (λ x y k. subst (λ op. AreStatesAlike rules (stepped rules state t x.1 x.0) (stepped rules twin t op y.0)) k.1
+        (λ x y k. rw (← k.1)
         (stepped_alike lawful.pairs_lawful alike.paired.0 alike.paired.1 (threads_paired alike) t x.1 x.0 y.0 k.0))
         (ready program state t) (ready program twin t) (ready_alike alike program t)
 
@@ -219,10 +201,7 @@ module _ {Machine Memory Place Form : Type 0} (rules : Rules Memory Place) where
         ((λ h. same.0 (is.0 h)), (λ enabled. is.1 (same.1 enabled)))
 
     pub alike_history : AreStatesAlike rules state twin → history_of state ≡ history_of twin
-    alike_history alike =
-        let replies = alike.replies in
-        let notes = alike.notes in
-        λ i. record { begun = all_named 0 (notes i); finished = all_named 0 (replies i) }
+    alike_history alike = rw (alike.notes, alike.replies) refl
 
     pub alike_ordered : AreLawful rules → AreStatesAlike rules state twin → rules.IsOrdered state.memory
         → rules.IsOrdered twin.memory

@@ -17,6 +17,4 @@ module _ {A B : Type 0} (code : B → List ℕ) (of : A → B) where
       → after ≡ before ++ length xs ∷ flat_map (λ x. code (of x)) (take i xs)
       → after ≡ before ++ list_code code (map of xs)
   fields_coded xs i before after within put =
-      put ∙ (ap (λ ys. before ++ length xs ∷ flat_map (λ x. code (of x)) ys) (take_all i xs within)
-      ∙ (ap (λ n. before ++ n ∷ flat_map (λ x. code (of x)) xs) (sym (length-map xs of))
-      ∙ ap (λ l. before ++ length (map of xs) ∷ l) (sym (flat_map-map xs))))
+      rw (put, take_all i xs within, length-map xs of, flat_map-map xs) refl

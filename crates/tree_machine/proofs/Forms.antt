@@ -34,8 +34,7 @@ module _ {Machine Memory Place Form : Type 0} (rules : Rules Memory Place) where
         numbers.places twin_numbers.memory twin_numbers.places in
         let same_length : replies_of state.threads ≡ replies_of twin.threads
         → length (places_of state.threads) ≡ length (places_of twin.threads) =
-        λ h. length-map state.threads (λ x. x.place) ∙ sym (length-map state.threads (λ x. x.replies)) ∙ ap length h
-        ∙ length-map twin.threads (λ x. x.replies) ∙ sym (length-map twin.threads (λ x. x.place)) in (
+        λ h. simp length-map (simp length-map at (ap length h)) in (
           (λ same. record {
             paired = (law (same_length (ap (λ form. form.replies) same))).0 (ap (λ form. form.form) same);
             replies = ap (λ form. form.replies) same;
@@ -43,11 +42,7 @@ module _ {Machine Memory Place Form : Type 0} (rules : Rules Memory Place) where
             astray = ap (λ form. form.astray) same;
           }),
           (λ alike.
-              let form = (law (same_length alike.replies)).1 alike.paired in
-              let replies = alike.replies in
-              let notes = alike.notes in
-              let astray = alike.astray in
-              λ i. record { form = form i; replies = replies i; notes = notes i; astray = astray i }),
+              rw ((law (same_length alike.replies)).1 alike.paired, alike.replies, alike.notes, alike.astray) refl),
         )
 
     pub forms_alike : (here there : Program) (state twin : State Machine Memory Place Form) → Fits rules here state

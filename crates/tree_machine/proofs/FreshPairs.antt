@@ -1,7 +1,7 @@
 -- Pairs of places in two lists: values that are written or appended on both sides keep them.
 use Rattle.std.specs.Prelude.{◌≡◌, ℕ, ◌<◌, Bool, true, false, cond, nat_eq, List, [], ◌∷◌, ◌++◌, length, slice_get}
 use Rattle.std.specs.Prelude.{slice_set, Option, Some, refl}
-use Rattle.std.proofs.Common.{arith, ap, sym, ◌∙◌, subst, inl, inr, length-append, length-set}
+use Rattle.std.proofs.Common.{arith, sym, ◌∙◌, inl, inr, length-append, length-set}
 use Rattle.std.proofs.lemmas.Bool.Decides.{eqb_tells}
 use Rattle.tree_machine.proofs.Lists.{get_at, get-append_left, get-set_same, get-set_other}
 use Rattle.tree_machine.specs.Pairing.{IsAmong, IsOneToOne}
@@ -39,17 +39,14 @@ pub paired_as : {A : Type 0} (T S : Option A → Option A → Type 0) (xs ys : L
 paired_as T S xs ys x y r to h =
     let s = get_at xs x r.0 in
     let t = get_at ys y r.1 in
-    subst (λ o. S o (slice_get ys y)) (sym s.1)
-    (subst (S (Some s.0)) (sym t.1)
-    (to s.0 t.0 (subst (λ o. T o (Some t.0)) s.1 (subst (T (slice_get xs x)) t.1 h))))
+    rw (s.1, t.1) (to s.0 t.0 (rw (s.1, t.1) at h))
 
 -- ---- a value is written on both sides
 
 module _ {A : Type 0} (P : ℕ → ℕ → Type 0) (xs ys : List A) (x y : ℕ) (a b : A) where
   pub within_set : AreWithin P xs ys → AreWithin P (slice_set xs x a) (slice_set ys y b)
   within_set within v w p =
-      let r = within v w p in
-      (subst (λ n. v < n) (sym (length-set xs x a)) r.0, subst (λ n. w < n) (sym (length-set ys y b)) r.1)
+      let r = within v w p in (omega (arith, length-set xs x a), omega (arith, length-set ys y b))
 
   pub paired_set : (T : Option A → Option A → Type 0) → IsOneToOne P → AreWithin P xs ys → P x y → T (Some a) (Some b)
       → AreValuesPaired P T xs ys → AreValuesPaired P T (slice_set xs x a) (slice_set ys y b)
@@ -57,14 +54,10 @@ module _ {A : Type 0} (P : ℕ → ℕ → Type 0) (xs ys : List A) (x y : ℕ) 
       elim (eqb_tells v x) [
         | inl e ↦
             let r = within x y at in
-            let left = ap (slice_get (slice_set xs x a)) e.1 ∙ get-set_same xs x a r.0 in
-            let right = ap (slice_get (slice_set ys y b)) ((one v w x y p at).0 e.1) ∙ get-set_same ys y b r.1 in
-            subst (λ o. T o (slice_get (slice_set ys y b) w)) (sym left) (subst (T (Some a)) (sym right) new)
+            rw (e.1, (one v w x y p at).0 e.1, get-set_same xs x a r.0, get-set_same ys y b r.1) new
         | inr e ↦
-            let left = get-set_other xs x v a e.1 in
             let right = get-set_other ys y w b (λ f. e.1 ((one v w x y p at).1 f)) in
-            subst (λ o. T o (slice_get (slice_set ys y b) w)) (sym left)
-            (subst (T (slice_get xs v)) (sym right) (old v w p))
+            rw (get-set_other xs x v a e.1, right) (old v w p)
       ]
 
 -- ---- a value is appended on both sides, and their places are paired
@@ -99,11 +92,7 @@ module _ {A : Type 0} (pairs : List (ℕ × ℕ)) (xs ys : List A) (within : Are
     pub fresh_paired : (T : Option A → Option A → Type 0) → T (Some a) (Some b)
         → AreValuesPaired (IsAmong pairs) T xs ys → AreValuesPaired Fresh T (xs ++ a ∷ []) (ys ++ b ∷ [])
     fresh_paired T new old x y (inl e) =
-        subst (λ z. T (slice_get (xs ++ a ∷ []) z) (slice_get (ys ++ b ∷ []) y)) e.0
-        (subst (λ z. T (slice_get (xs ++ a ∷ []) (length xs)) (slice_get (ys ++ b ∷ []) z)) e.1
-        (subst (λ c. T c (slice_get (ys ++ b ∷ []) (length ys))) (sym (get_last xs a))
-        (subst (λ c. T (Some a) c) (sym (get_last ys b)) new)))
+        rw (← e.0, ← e.1, get_last xs a, get_last ys b) new
     fresh_paired T new old x y (inr p) =
         let r = within x y p in
-        subst (λ c. T c (slice_get (ys ++ b ∷ []) y)) (sym (get_front xs (a ∷ []) x r.0))
-        (subst (λ c. T (slice_get xs x) c) (sym (get_front ys (b ∷ []) y r.1)) (old x y p))
+        rw (get_front xs (a ∷ []) x r.0, get_front ys (b ∷ []) y r.1) (old x y p)

@@ -4,6 +4,7 @@ use Rattle.std.specs.Prelude.{◌≡◌, ◌≢◌, ℕ, suc, ◌+◌, ◌<◌, 
 use Rattle.std.specs.Prelude.{List, ◌++◌, length, refl, Option, Some, unwrap_or, slice_get, slice_set}
 use Rattle.std.specs.Option.{option_map}
 use Rattle.std.proofs.Common.{arith, sym, ◌∙◌, ap, ◌⊎◌, inl, inr}
+use Rattle.std.proofs.lemmas.Bool.{le-leb, lt-leb}
 use Rattle.std.proofs.lemmas.Bool.Decides.{leb_tells}
 use Rattle.std.proofs.lemmas.Option.{slice_get_within}
 use Rattle.tree_machine.proofs.Lists.{slice_get-set, get-set_same, get-set_other, get-append_left, get-append_right}
@@ -95,19 +96,15 @@ module _ {Node : Type 0} (leaf : Node) (shape_in : Node → Shape) (key_in : Nod
         → after end.parent ≡ Some (Internal m (length nodes + new) r)
     left m l r e below =
         parent_then (Internal m l r) e
-        ∙ elim (leb_tells (suc key) m) [
-          | inl t ↦ ap (λ b. Some (over_child (if b then Left else Right) (length nodes + new) (Internal m l r))) t.0
-          | inr t ↦ absurd (let d = t.1 in omega arith)
-        ]
+        ∙ ap (λ b. Some (over_child (if b then Left else Right) (length nodes + new) (Internal m l r)))
+        (le-leb (suc key) m below)
 
     right : (m l r : ℕ) → seen nodes end.parent ≡ Some (Internal m l r) → m ≤ key
         → after end.parent ≡ Some (Internal m l (length nodes + new))
     right m l r e above =
         parent_then (Internal m l r) e
-        ∙ elim (leb_tells (suc key) m) [
-          | inl t ↦ absurd (let d = t.1 in omega arith)
-          | inr t ↦ ap (λ b. Some (over_child (if b then Left else Right) (length nodes + new) (Internal m l r))) t.0
-        ]
+        ∙ ap (λ b. Some (over_child (if b then Left else Right) (length nodes + new) (Internal m l r)))
+        (lt-leb (suc key) m (omega arith))
 
     fresh : (i x : ℕ) (s : Shape) → x ≡ length nodes + i → end.parent < length nodes → seen more i ≡ Some s
         → after x ≡ Some s
@@ -173,11 +170,4 @@ module _ {Node : Type 0} (leaf : Node) (shape_in : Node → Shape) (key_in : Nod
 
     pub put_over : IsPutIn (seen nodes) after key end
     put_over =
-        record {
-          new = length nodes + new;
-          kept = kept;
-          left = left;
-          right = right;
-          over = over;
-          leaves = leaves;
-        }
+        record { new = length nodes + new; kept = kept; left = left; right = right; over = over; leaves = leaves }

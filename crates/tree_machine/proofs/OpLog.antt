@@ -9,7 +9,7 @@ use Rattle.tree_machine.specs.Alike.{replies_of, notes_of}
 use Rattle.tree_machine.specs.Offsets.{op_log_of}
 use Rattle.tree_machine.specs.FormCode.{op_log_code}
 use Rattle.tree_machine.specs.Rules.{Rules}
-use Rattle.tree_machine.specs.Step.{at_step, after_access, finished_counts, notes_at_step, ready, step, stepped}
+use Rattle.tree_machine.specs.Step.{at_step, after_access, finished_counts, notes_at_step, ready, step}
 use Rattle.tree_machine.specs.declared.machine.Outcome.{Outcome}
 use Rattle.tree_machine.specs.declared.machine.Outcome.TheVariants.{Goes, Replies, Astray}
 use Rattle.tree_machine.specs.declared.state.Thread.{Thread}
@@ -28,27 +28,6 @@ module _ {X : Type 0} where
   no_more xs [] ys e h = e ∙ append-nil xs
   no_more xs (x ∷ more) ys e h = absurd (omega (arith, length-append xs (x ∷ more), ap length e))
 
-module _ {Place : Type 0} (threads : List (Thread Place)) (t : ℕ) (there here : Thread Place)
-    (at_t : slice_get threads t ≡ Some there) (as_many : length here.replies ≡ length there.replies)
-    (as_many_notes : length here.notes ≡ length there.notes) where
-  -- the thread is replaced by one that did what it did, and maybe more
-  put_same : (after : Thread Place) (more : List Bool) (more_notes : List (List ℕ))
-      → slice_get (slice_set threads t after) t ≡ Some here → after.replies ≡ there.replies ++ more
-      → after.notes ≡ there.notes ++ more_notes → (replies_of (slice_set threads t after) ≡ replies_of threads)
-      × (notes_of (slice_set threads t after) ≡ notes_of threads)
-  put_same after more more_notes found replies notes =
-      let same : here ≡ after =
-      same_Some _ _ (sym found ∙ get-set_same threads t after (slice_get_within threads t there at_t)) in
-      let count : length after.replies ≡ length there.replies =
-      ap (λ (x : Thread Place). length x.replies) (sym same) ∙ as_many in
-      let note_count : length after.notes ≡ length there.notes =
-      ap (λ (x : Thread Place). length x.notes) (sym same) ∙ as_many_notes in (
-        map-put (λ (x : Thread Place). x.replies) threads t after there at_t
-            (no_more there.replies more after.replies replies count),
-        map-put (λ (x : Thread Place). x.notes) threads t after there at_t
-            (no_more there.notes more_notes after.notes notes note_count),
-      )
-
 noted : {Place : Type 0} (held : Option Place) (notes : List (List ℕ)) (counts : List ℕ)
     → (more : List (List ℕ)) × (notes_at_step held notes counts ≡ notes ++ more)
 noted None notes counts = (counts ∷ [], refl)
@@ -58,21 +37,34 @@ module _ {Machine Memory Place Form : Type 0} (state : State Machine Memory Plac
     (there here : Thread Place) (at_t : slice_get state.threads t ≡ Some there)
     (as_many : length here.replies ≡ length there.replies) (as_many_notes : length here.notes ≡ length there.notes)
   where
+    -- the thread is replaced by one that did what it did, and maybe more
+    put_same : (after : Thread Place) (more : List Bool) (more_notes : List (List ℕ))
+        → slice_get (slice_set state.threads t after) t ≡ Some here → after.replies ≡ there.replies ++ more
+        → after.notes ≡ there.notes ++ more_notes
+        → (replies_of (slice_set state.threads t after) ≡ replies_of state.threads)
+        × (notes_of (slice_set state.threads t after) ≡ notes_of state.threads)
+    put_same after more more_notes found replies notes =
+        let same : here ≡ after =
+        same_Some _ _
+        (sym found ∙ get-set_same state.threads t after (slice_get_within state.threads t there at_t)) in (
+          map-put (λ (x : Thread Place). x.replies) state.threads t after there at_t
+              (no_more there.replies more after.replies replies (rw same at as_many)),
+          map-put (λ (x : Thread Place). x.notes) state.threads t after there at_t
+              (no_more there.notes more_notes after.notes notes (rw same at as_many_notes)),
+        )
+
     access_same : (at : Thread Place) (more_notes : List (List ℕ)) (acted : Memory × Outcome Place)
         → at.replies ≡ there.replies → at.notes ≡ there.notes ++ more_notes
         → slice_get (after_access state t at acted).threads t ≡ Some here
         → (replies_of (after_access state t at acted).threads ≡ replies_of state.threads)
         × (notes_of (after_access state t at acted).threads ≡ notes_of state.threads)
     access_same at more_notes (memory, Goes place) replies notes found =
-        put_same state.threads t there here at_t as_many as_many_notes (record at { place = Some place }) [] more_notes
-        found (replies ∙ sym (append-nil there.replies)) notes
+        put_same (record at { place = Some place }) [] more_notes found (rw append-nil replies) notes
     access_same at more_notes (memory, Replies reply) replies notes found =
-        put_same state.threads t there here at_t as_many as_many_notes
-        (record at { replies = at.replies ++ reply ∷ []; place = None }) (reply ∷ []) more_notes found
-        (ap (λ l. l ++ reply ∷ []) replies) notes
+        put_same (record at { replies = at.replies ++ reply ∷ []; place = None }) (reply ∷ []) more_notes found
+        (rw replies refl) notes
     access_same at more_notes (memory, Astray) replies notes found =
-        put_same state.threads t there here at_t as_many as_many_notes at [] more_notes found
-        (replies ∙ sym (append-nil there.replies)) notes
+        put_same at [] more_notes found (rw append-nil replies) notes
 
 not_astray : {X : Type 0} (astray : Option ℕ) (rest : Option X) (x : X)
     → (if is_some astray then None else rest) ≡ Some x → astray ≡ None
@@ -93,21 +85,12 @@ module _ {Machine Memory Place Form : Type 0} (rules : Rules Memory Place) (prog
     pub op_log_stays : (replies_of next.threads ≡ replies_of state.threads)
         × (notes_of next.threads ≡ notes_of state.threads)
     op_log_stays =
-        step_parts rules program
-        ((replies_of next.threads ≡ replies_of state.threads) × (notes_of next.threads ≡ notes_of state.threads))
-        state next t made (λ thread is op at_op stepped_is.
+        step_parts rules program _ state next t made (λ thread is op at_op stepped_is.
         let same : thread ≡ there = same_Some _ _ (sym is ∙ at_t) in
-        let at = at_step rules state op thread in
         let more = noted thread.place thread.notes (finished_counts state.threads) in
-        let there_still : slice_get (stepped rules state t op thread).threads t ≡ Some here =
-        ap (λ (s : State Machine Memory Place Form). slice_get s.threads t) (sym stepped_is) ∙ found in
-        let kept =
-        access_same state t there here at_t as_many as_many_notes at more.0 _
-        (ap (λ (x : Thread Place). x.replies) same)
-        (more.1 ∙ ap (λ (x : Thread Place). x.notes ++ more.0) same) there_still in (
-          ap (λ (s : State Machine Memory Place Form). replies_of s.threads) stepped_is ∙ kept.0,
-          ap (λ (s : State Machine Memory Place Form). notes_of s.threads) stepped_is ∙ kept.1,
-        ))
+        rw stepped_is
+        (access_same state t there here at_t as_many as_many_notes (at_step rules state op thread) more.0 _
+        (rw same refl) (more.1 ∙ ap (λ (x : Thread Place). x.notes ++ more.0) same) (rw stepped_is at found)))
 
   -- the bytes of what the threads did are as they were
   pub same_op_log : (there here : Thread Place) → slice_get state.threads t ≡ Some there

@@ -1,7 +1,7 @@
 -- What the types of replies and notes in bytes promise.
 use Rattle.std.proofs.Common.{◌≡◌, ℕ, ◌+◌, ◌*◌, ◌/◌, ◌%◌, ◌^◌, ◌<◌, ◌≤◌, List, [], ◌∷◌, ◌++◌, length, refl, sym, ◌∙◌}
-use Rattle.std.proofs.Common.{ap, ap₂, true, zero, suc, subst, arith, eq-eqb, eqb-true, get_or, length-append}
-use Rattle.std.specs.Prelude.{nat_eq}
+use Rattle.std.proofs.Common.{ap, ap₂, true, zero, suc, arith, eq-eqb, eqb-true, get_or, length-append}
+use Rattle.std.specs.Prelude.{Bool, nat_eq}
 use Rattle.std.specs.Cmp.{bool_eq_equiv}
 use Rattle.std.specs.Cmp.Lexicographic.{pointwise}
 use Rattle.std.proofs.lemmas.Cmp.{lists_equiv, nat_eq_equiv}
@@ -16,24 +16,23 @@ use Rattle.tree_machine.specs.Laws.StateExact.{same_answer}
 use Rattle.tree_machine.specs.Packed.{counts_in, is_short, note_number, replies_in, replies_number}
 use mathlib.Core.Bool.{beq}
 
+module _ {A : Type 0} (eq : A → A → Bool) (same : (xs : List A) → pointwise eq xs xs ≡ true)
+    (exact : (xs ys : List A) → pointwise eq xs ys ≡ true → xs ≡ ys) (read : ℕ → List A) (number : List A → ℕ) where
+  read_same : (n m : ℕ) → number (read n) ≡ n → number (read m) ≡ m → nat_eq n m ≡ pointwise eq (read n) (read m)
+  read_same n m n_whole m_whole =
+      same_answer (nat_eq n m) (pointwise eq (read n) (read m)) (λ e. rw (← eqb-true n m e) (same (read n)))
+      (λ e. eq-eqb n m (sym n_whole ∙ (ap number (exact (read n) (read m) e) ∙ m_whole)))
+
 -- numbers are equal where the replies are
 pub replies_same : (n m : ℕ) → 0 < n → n < 128 → 0 < m → m < 128
     → nat_eq n m ≡ pointwise beq (replies_in n) (replies_in m)
 replies_same n m n_least n_below m_least m_below =
-    same_answer (nat_eq n m) (pointwise beq (replies_in n) (replies_in m))
-    (λ e. ap (λ k. pointwise beq (replies_in n) (replies_in k)) (sym (eqb-true n m e))
-    ∙ (lists_equiv bool_eq_equiv).refl (replies_in n))
-    (λ e. eq-eqb n m (sym (replies_back n n_least n_below)
-    ∙ (ap replies_number (list_exact bool_exact (replies_in n) (replies_in m) e) ∙ replies_back m m_least m_below)))
+    read_same beq (lists_equiv bool_eq_equiv).refl (list_exact bool_exact) replies_in replies_number n m
+    (replies_back n n_least n_below) (replies_back m m_least m_below)
 
 pub notes_same : (n m : ℕ) → note_number (counts_in n) ≡ n → note_number (counts_in m) ≡ m
     → nat_eq n m ≡ pointwise nat_eq (counts_in n) (counts_in m)
-notes_same n m n_whole m_whole =
-    same_answer (nat_eq n m) (pointwise nat_eq (counts_in n) (counts_in m))
-    (λ e. ap (λ k. pointwise nat_eq (counts_in n) (counts_in k)) (sym (eqb-true n m e))
-    ∙ (lists_equiv nat_eq_equiv).refl (counts_in n))
-    (λ e. eq-eqb n m (sym n_whole
-    ∙ (ap note_number (list_exact nat_exact (counts_in n) (counts_in m) e) ∙ m_whole)))
+notes_same = read_same nat_eq (lists_equiv nat_eq_equiv).refl (list_exact nat_exact) counts_in note_number
 
 -- the two bytes of a number are the code of its note
 pub code_of_number : (n : ℕ) → note_number (counts_in n) ≡ n → note_code (counts_in n) ≡ n / 256 ∷ n % 256 ∷ []
@@ -45,7 +44,7 @@ module _ (n : ℕ) (counts : List ℕ) (whole : note_number (counts_in n) ≡ n)
   is_number = sym whole ∙ ap note_number is
 
   are_short : is_short counts ≡ true
-  are_short = subst (λ (l : List ℕ). is_short l ≡ true) is (counts_short n)
+  are_short = rw is at (counts_short n)
 
   pub length_is : n / 4096 ≡ length counts
   length_is = ap (λ k. k / 4096) is_number ∙ length_of_number counts are_short
@@ -55,9 +54,7 @@ module _ (n : ℕ) (counts : List ℕ) (whole : note_number (counts_in n) ≡ n)
 
   pub digits_are : (n % 8 ≡ get_or counts 0 0) × (n / 8 % 8 ≡ get_or counts 1 0) × (n / 64 % 8 ≡ get_or counts 2 0)
       × (n / 512 % 8 ≡ get_or counts 3 0)
-  digits_are =
-      subst (λ k. (k % 8 ≡ get_or counts 0 0) × (k / 8 % 8 ≡ get_or counts 1 0) × (k / 64 % 8 ≡ get_or counts 2 0)
-      × (k / 512 % 8 ≡ get_or counts 3 0)) (sym is_number) (counts_at counts are_short)
+  digits_are = rw is_number (counts_at counts are_short)
 
   -- the count of a thread: 0 for one that the program does not have
   pub digit_at : (t : ℕ) → t < 4 → n / 2 ^ (3 * t) % 8 ≡ get_or counts t 0
@@ -75,8 +72,7 @@ module _ (n : ℕ) (counts : List ℕ) (whole : note_number (counts_in n) ≡ n)
       (shifted : moved ≡ count * 2 ^ (3 * (n / 4096)) % 65536) where
     moved_is : moved ≡ count * 2 ^ (3 * length counts)
     moved_is =
-        shifted ∙ (shl_whole count 3 (3 * (n / 4096)) 16 small (omega (arith, length_is, room))
-        ∙ ap (λ k. count * 2 ^ (3 * k)) length_is)
+        rw (shifted, ← length_is) (shl_whole count 3 (3 * (n / 4096)) 16 small (omega (arith, length_is, room)))
 
     longer : n + (4096 + moved) ≡ note_number (counts ++ count ∷ [])
     longer = ap₂ (λ k m. k + (4096 + m)) is_number moved_is ∙ sym (one_count_more counts count room)
@@ -90,7 +86,7 @@ module _ (n : ℕ) (counts : List ℕ) (whole : note_number (counts_in n) ≡ n)
     count_pushed = ap counts_in longer ∙ counts_of_number (counts ++ count ∷ []) longer_short
 
     pub longer_below : n + (4096 + moved) < 20480
-    longer_below = subst (λ k. k < 20480) (sym longer) (number_below (counts ++ count ∷ []) longer_short)
+    longer_below = rw longer (number_below (counts ++ count ∷ []) longer_short)
 
     pub longer_whole : note_number (counts_in (n + (4096 + moved))) ≡ n + (4096 + moved)
     longer_whole = ap note_number count_pushed ∙ sym longer

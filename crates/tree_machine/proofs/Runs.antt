@@ -1,7 +1,6 @@
 -- The history of a state that fits a program is a history of that program.
-use Rattle.std.specs.Prelude.{option_and_then}
-use Rattle.std.proofs.Common.{◌≡◌, ℕ, zero, suc, ◌+◌, ◌<◌, ◌⊎◌, inl, inr, Bool, true, false, List, [], ◌∷◌, ◌++◌}
-use Rattle.std.proofs.Common.{length, map, Option, Some, is_some, IsSome, refl, sym, ap, ◌∙◌, subst, arith, slice_get}
+use Rattle.std.proofs.Common.{◌≡◌, ℕ, zero, suc, ◌+◌, ◌⊎◌, inl, inr, Bool, true, false, List, [], ◌∷◌, ◌++◌}
+use Rattle.std.proofs.Common.{length, map, Option, Some, IsSome, refl, sym, ap, ◌∙◌, arith, slice_get}
 use Rattle.std.proofs.Common.{get_or, if◌then◌else◌, ◌==◌, ◌&&◌}
 use Rattle.std.proofs.lemmas.Option.{slice_get_within, slice_get-get_or, get_or_from_slice_get, same_Some}
 use Rattle.std.proofs.lemmas.Bool.{eq-eqb}
@@ -10,7 +9,7 @@ use Rattle.sched_program.specs.declared.operation.OpId.{OpId}
 use Rattle.sched_program.specs.Name.{same_name, value_at, IsBefore, Ascend}
 use Rattle.sched_program.specs.History.{IsHistoryOf}
 use Rattle.sched_program.specs.Program.{Program, op_at}
-use Rattle.tree_machine.specs.History.{named, all_named, history_of}
+use Rattle.tree_machine.specs.History.{named, all_named}
 use Rattle.tree_machine.specs.Rules.{Rules}
 use Rattle.tree_machine.specs.Step.{ThreadFits, Fits}
 use Rattle.tree_machine.specs.declared.state.Thread.{Thread}
@@ -26,15 +25,10 @@ module _ {A : Type 0} where
       → (slice_get xs k ≡ Some e.1) × (e.0.thread ≡ t) × (e.0.index ≡ i + k)
   named_at t i [] k e h = cc
   named_at t i (x ∷ xs) zero e h =
-      let same : (record { thread = t; index = i }, x) ≡ e = same_Some _ _ h in (
-        ap (λ p. Some p.1) same,
-        ap (λ p. p.0.thread) (sym same),
-        ap (λ p. p.0.index) (sym same)
-            ∙ (let z : i ≡ i + 0 = omega arith in z),
-      )
+      let same : (record { thread = t; index = i }, x) ≡ e = same_Some _ _ h in
+      (ap (λ p. Some p.1) same, ap (λ p. p.0.thread) (sym same), omega (arith, ap (λ p. p.0.index) (sym same)))
   named_at t i (x ∷ xs) (suc k) e h =
-      let rest = named_at t (i + 1) xs k e h in
-      (rest.0, rest.1, (let at : e.0.index ≡ (i + 1) + k = rest.2 in omega arith))
+      let rest = named_at t (i + 1) xs k e h in (rest.0, rest.1, omega (arith, rest.2))
 
   -- one operation of a thread is in its list
   named_there : (t i : ℕ) (xs : List A) (k : ℕ) (x : A) → slice_get xs k ≡ Some x
@@ -42,70 +36,43 @@ module _ {A : Type 0} where
   named_there t i [] k x h = cc
   named_there t i (y ∷ xs) zero x h = ((record { thread = t; index = i }, y), refl, refl, omega arith)
   named_there t i (y ∷ xs) (suc k) x h =
-      let rest = named_there t (i + 1) xs k x h in
-      (rest.0, rest.1, rest.2, (let at : rest.0.0.index ≡ (i + 1) + k = rest.3 in omega arith))
+      let rest = named_there t (i + 1) xs k x h in (rest.0, rest.1, rest.2, omega (arith, rest.3))
 
   -- what is in the list of all threads' operations
-  pub all_named_at : (t : ℕ) (all : List (List A)) (k : ℕ) (e : OpId × A) → slice_get (all_named t all) k ≡ Some e
+  all_named_at : (t : ℕ) (all : List (List A)) (k : ℕ) (e : OpId × A) → slice_get (all_named t all) k ≡ Some e
       → (u i : ℕ) × (xs : List A) × (slice_get all u ≡ Some xs) × (slice_get xs i ≡ Some e.1) × (e.0.thread ≡ t + u)
       × (e.0.index ≡ i)
   all_named_at t [] k e h = cc
   all_named_at t (xs ∷ all) k e h =
       elim (get-append_cases (named t 0 xs) (all_named (t + 1) all) k e h) [
-        | inl l ↦ let at = named_at t 0 xs k e l in (
-          0,
-          k,
-          xs,
-          refl,
-          at.0,
-          (let z : e.0.thread ≡ t = at.1 in omega arith),
-          (let z : e.0.index ≡ 0 + k = at.2 in omega arith),
-        )
+        | inl l ↦
+            let at = named_at t 0 xs k e l in
+            (0, k, xs, refl, at.0, omega (arith, at.1), omega (arith, at.2))
         | inr r ↦
-            let rest = all_named_at (t + 1) all r.0 e r.2 in (
-              suc rest.0,
-              rest.1,
-              rest.2,
-              rest.3,
-              rest.4,
-              (let z : e.0.thread ≡ (t + 1) + rest.0 = rest.5 in omega arith),
-              rest.6,
-            )
+            let rest = all_named_at (t + 1) all r.0 e r.2 in
+            (suc rest.0, rest.1, rest.2, rest.3, rest.4, omega (arith, rest.5), rest.6)
       ]
 
   -- one operation of a thread is in the list of all
-  pub all_named_there : (t : ℕ) (all : List (List A)) (u i : ℕ) (xs : List A) (x : A) → slice_get all u ≡ Some xs
+  all_named_there : (t : ℕ) (all : List (List A)) (u i : ℕ) (xs : List A) (x : A) → slice_get all u ≡ Some xs
       → slice_get xs i ≡ Some x
       → (k : ℕ) × (e : OpId × A) × (slice_get (all_named t all) k ≡ Some e) × (e.0.thread ≡ t + u) × (e.0.index ≡ i)
   all_named_there t [] u i xs x at_u at_i = cc
   all_named_there t (ys ∷ all) zero i xs x at_u at_i =
-      let own : slice_get ys i ≡ Some x = subst (λ zs. slice_get zs i ≡ Some x) (same_Some xs ys (sym at_u)) at_i in
-      let one = named_there t 0 ys i x own in (
-        i,
-        one.0,
-        get-append_left (named t 0 ys) (all_named (t + 1) all) i one.0 one.1,
-        (let z : one.0.0.thread ≡ t = one.2 in omega arith),
-        (let z : one.0.0.index ≡ 0 + i = one.3 in omega arith),
-      )
+      let one = named_there t 0 ys i x (rw (same_Some xs ys (sym at_u)) at at_i) in
+      let there = get-append_left (named t 0 ys) (all_named (t + 1) all) i one.0 one.1 in
+      (i, one.0, there, omega (arith, one.2), omega (arith, one.3))
   all_named_there t (ys ∷ all) (suc u) i xs x at_u at_i =
-      let rest = all_named_there (t + 1) all u i xs x at_u at_i in (
-        length (named t 0 ys) + rest.0,
-        rest.1,
-        get-append_right (named t 0 ys) (all_named (t + 1) all) rest.0 rest.1 rest.2,
-        (let z : rest.1.0.thread ≡ (t + 1) + u = rest.3 in omega arith),
-        rest.4,
-      )
+      let rest = all_named_there (t + 1) all u i xs x at_u at_i in
+      let there = get-append_right (named t 0 ys) (all_named (t + 1) all) rest.0 rest.1 rest.2 in
+      (length (named t 0 ys) + rest.0, rest.1, there, omega (arith, rest.3), rest.4)
 
   -- two neighbours in a thread's list
   named_ascend : (t i : ℕ) (xs : List A) → Ascend (named t i xs)
   named_ascend t i xs k a b at_a at_b =
       let first = named_at t i xs k a at_a in
       let second = named_at t i xs (k + 1) b at_b in
-      inr (
-        first.1 ∙ sym second.1,
-        (let p : a.0.index ≡ i + k = first.2 in let q : b.0.index ≡ i + (k + 1) = second.2 in
-            omega arith),
-      )
+      inr (first.1 ∙ sym second.1, omega (arith, first.2, second.2))
 
   append_ascend : (xs ys : List (OpId × A)) → Ascend xs → Ascend ys
       → ((i j : ℕ) (a b : OpId × A) → slice_get xs i ≡ Some a → slice_get ys j ≡ Some b → IsBefore a.0 b.0)
@@ -117,21 +84,19 @@ module _ {A : Type 0} where
           | inr m ↦ apart k m.0 a b l m.2
         ]
         | inr r ↦ elim (get-append_cases xs ys (k + 1) b at_b) [
-          | inl m ↦ (let p : k ≡ length xs + r.0 = r.1 in let q = slice_get_within xs (k + 1) b m in
-              absurd (omega arith))
-          | inr m ↦ (let p : k ≡ length xs + r.0 = r.1 in let q : k + 1 ≡ length xs + m.0 = m.1 in
-              let e : m.0 ≡ r.0 + 1 = omega arith in back r.0 a b r.2 (subst (λ n. slice_get ys n ≡ Some b) e m.2))
+          | inl m ↦ absurd (omega (arith, r.1, slice_get_within xs (k + 1) b m))
+          | inr m ↦ let e : m.0 ≡ r.0 + 1 = omega (arith, r.1, m.1) in back r.0 a b r.2 (rw e at m.2)
         ]
       ]
 
-  pub all_named_ascend : (t : ℕ) (all : List (List A)) → Ascend (all_named t all)
+  all_named_ascend : (t : ℕ) (all : List (List A)) → Ascend (all_named t all)
   all_named_ascend t [] = λ k a b at_a at_b. cc
   all_named_ascend t (xs ∷ all) =
       append_ascend (named t 0 xs) (all_named (t + 1) all) (named_ascend t 0 xs) (all_named_ascend (t + 1) all)
       (λ i j a b at_a at_b.
       let first = named_at t 0 xs i a at_a in
       let second = all_named_at (t + 1) all j b at_b in
-      inl (let p : a.0.thread ≡ t = first.1 in let q : b.0.thread ≡ (t + 1) + second.0 = second.5 in omega arith))
+      inl (omega (arith, first.1, second.5)))
 
   -- a name that is in a list has a value there
   value_or_later : (b : Bool) (v : A) (later : Option A) → (b ≡ true) ⊎ (IsSome later)
@@ -157,24 +122,21 @@ module _ {Machine Memory Place Form : Type 0} (rules : Rules Memory Place) (prog
       → (ops : List Op) × (slice_get program.threads u ≡ Some ops) × ThreadFits rules program state.memory ops thread
   with_ops u thread at_u =
       let there =
-      get_at program.threads u (let within = slice_get_within state.threads u thread at_u in
-      omega (arith, fits.thread_count)) in
+      get_at program.threads u (omega (arith, slice_get_within state.threads u thread at_u, fits.thread_count)) in
       (there.0, there.1, fits.threads u there.0 thread there.1 at_u)
 
   op_there : (u i : ℕ) (thread : Thread Place) (note : List ℕ) → slice_get state.threads u ≡ Some thread
       → slice_get thread.notes i ≡ Some note → IsSome (op_at program u i)
   op_there u i thread note at_u at_i =
       let found = with_ops u thread at_u in
-      let within = slice_get_within thread.notes i note at_i in
-      let op = get_at found.0 i (let begun = found.2.begun in omega arith) in
-      ap is_some (ap (option_and_then (λ ops. slice_get ops i)) found.1 ∙ op.1)
+      let op = get_at found.0 i (omega (arith, slice_get_within thread.notes i note at_i, found.2.begun)) in
+      rw (found.1, op.1) refl
 
   note_counts : (u i : ℕ) (thread : Thread Place) (note : List ℕ) → slice_get state.threads u ≡ Some thread
       → slice_get thread.notes i ≡ Some note → length note ≡ length program.threads
   note_counts u i thread note at_u at_i =
-      let found = with_ops u thread at_u in
-      ap length (sym (get_or_from_slice_get thread.notes i note note at_i))
-      ∙ found.2.notes i note (slice_get_within thread.notes i note at_i)
+      rw (get_or_from_slice_get thread.notes i note note at_i)
+      at ((with_ops u thread at_u).2.notes i note (slice_get_within thread.notes i note at_i))
 
   abbrev all_notes : List (List (List ℕ))
   all_notes = map (λ thread. thread.notes) state.threads
@@ -189,10 +151,10 @@ module _ {Machine Memory Place Form : Type 0} (rules : Rules Memory Place) (prog
   begun_at k e h =
       let at = all_named_at 0 all_notes k e h in
       let thread = get-map (λ thread. thread.notes) state.threads at.0 at.2 at.3 in
-      let same : e.0.thread ≡ at.0 = (let z : e.0.thread ≡ 0 + at.0 = at.5 in omega arith) in (
+      let same : e.0.thread ≡ at.0 = omega (arith, at.5) in (
         thread.0,
         ap (slice_get state.threads) same ∙ thread.1,
-        ap (slice_get thread.0.notes) at.6 ∙ subst (λ notes. slice_get notes at.1 ≡ Some e.1) thread.2 at.4,
+        ap (slice_get thread.0.notes) at.6 ∙ rw thread.2 at at.4,
       )
 
   reply_begun : (k : ℕ) (e : OpId × Bool) → slice_get (all_named 0 all_replies) k ≡ Some e
@@ -201,34 +163,29 @@ module _ {Machine Memory Place Form : Type 0} (rules : Rules Memory Place) (prog
       let at = all_named_at 0 all_replies k e h in
       let thread = get-map (λ thread. thread.replies) state.threads at.0 at.2 at.3 in
       let fit = with_ops at.0 thread.0 thread.1 in
-      let within : at.1 < length thread.0.replies =
-      slice_get_within thread.0.replies at.1 e.1
-      (subst (λ replies. slice_get replies at.1 ≡ Some e.1) thread.2 at.4) in
-      let note = get_at thread.0.notes at.1 (let replies = fit.2.replies in omega arith) in
+      let within = slice_get_within thread.0.replies at.1 e.1 (rw thread.2 at at.4) in
+      let note = get_at thread.0.notes at.1 (omega (arith, within, fit.2.replies)) in
       let there =
       all_named_there 0 all_notes at.0 at.1 thread.0.notes note.0
       (map-get (λ thread. thread.notes) state.threads at.0 thread.0 thread.1) note.1 in
       value_found (all_named 0 all_notes) there.0 there.1 e.0 there.2 (there.3 ∙ sym at.5) (there.4 ∙ sym at.6)
 
-  pub is_history_of : IsHistoryOf program (history_of state)
-  is_history_of = record {
-    names = λ k d within.
-        let e = get_or (all_named 0 all_notes) k d in
-        let at = begun_at k e (slice_get-get_or (all_named 0 all_notes) k d within) in
-        op_there e.0.thread e.0.index at.0 e.1 at.1 at.2;
-    notes = λ k d within.
-        let e = get_or (all_named 0 all_notes) k d in
-        let at = begun_at k e (slice_get-get_or (all_named 0 all_notes) k d within) in
-        note_counts e.0.thread e.0.index at.0 e.1 at.1 at.2;
-    begun_ascend = all_named_ascend 0 all_notes;
-    finished_are_begun =
-        λ k d within. reply_begun k (get_or (all_named 0 all_replies) k d)
-        (slice_get-get_or (all_named 0 all_replies) k d within);
-    finished_ascend = all_named_ascend 0 all_replies;
-  }
-
   pub is_history : (begun : List (OpId × List ℕ)) (finished : List (OpId × Bool)) → begun ≡ all_named 0 all_notes
       → finished ≡ all_named 0 all_replies
       → IsHistoryOf program (record { begun = begun; finished = finished })
   is_history begun finished b f =
-      subst (IsHistoryOf program) (λ i. record { begun = sym b i; finished = sym f i }) is_history_of
+      rw (b, f) (record {
+        names = λ k d within.
+            let e = get_or (all_named 0 all_notes) k d in
+            let at = begun_at k e (slice_get-get_or (all_named 0 all_notes) k d within) in
+            op_there e.0.thread e.0.index at.0 e.1 at.1 at.2;
+        notes = λ k d within.
+            let e = get_or (all_named 0 all_notes) k d in
+            let at = begun_at k e (slice_get-get_or (all_named 0 all_notes) k d within) in
+            note_counts e.0.thread e.0.index at.0 e.1 at.1 at.2;
+        begun_ascend = all_named_ascend 0 all_notes;
+        finished_are_begun =
+            λ k d within. reply_begun k (get_or (all_named 0 all_replies) k d)
+            (slice_get-get_or (all_named 0 all_replies) k d within);
+        finished_ascend = all_named_ascend 0 all_replies;
+      })

@@ -1,13 +1,13 @@
 -- The step of a thread, what an access makes, and the next operation of a thread.
 use Rattle.std.proofs.Common.{◌≡◌, ℕ, ◌+◌, List, Option, Some, None, true, false, is_some, sym}
-use Rattle.std.proofs.Common.{ap, ◌∙◌, refl, slice_set, slice_get, length, if◌then◌else◌}
-use Rattle.std.specs.Option.{option_map, option_map_or, option_and_then}
+use Rattle.std.proofs.Common.{ap, ◌∙◌, refl, slice_set, slice_get, length}
+use Rattle.std.specs.Option.{option_map}
 use Rattle.std.specs.Prelude.{nat_le}
 use Rattle.std.proofs.lemmas.Option.{same_Some}
-use Rattle.sched_program.specs.Program.{Program, op_at, after_at}
+use Rattle.sched_program.specs.Program.{Program, after_at}
 use Rattle.sched_program.specs.declared.operation.Op.{Op}
 use Rattle.tree_machine.specs.Rules.{Rules}
-use Rattle.tree_machine.specs.Step.{ready, step, stepped, after_access, is_met, is_due, next_op}
+use Rattle.tree_machine.specs.Step.{ready, step, stepped, after_access, is_due, next_op}
 use Rattle.tree_machine.specs.Step.{finished_counts, place_or, notes_at_step, after_outcome, astray_by, with_note}
 use Rattle.tree_machine.specs.declared.machine.Outcome.{Outcome}
 use Rattle.tree_machine.specs.declared.machine.Outcome.TheVariants.{Goes, Replies, Astray}
@@ -16,35 +16,27 @@ use Rattle.tree_machine.specs.declared.state.State.{State}
 use Rattle.tree_machine.proofs.Lists.{map-get}
 use Rattle.tree_machine.proofs.States.{ready_pieces}
 
--- the step that a ready thread makes
-pub one_stepped : {Machine Memory Place Form : Type 0} (rules : Rules Memory Place) (program : Program)
-    (state : State Machine Memory Place Form) (t : ℕ) (thread : Thread Place) (op : Op)
-    → ready program state t ≡ Some (thread, op) → (next : State Machine Memory Place Form)
-    → next ≡ stepped rules state t op thread → step rules program state t ≡ Some next
-one_stepped rules program state t thread op is next made =
-    ap (λ r. option_map (λ (thread, op). stepped rules state t op thread) r) is ∙ ap Some (sym made)
-
-module _ {Machine Memory Place Form : Type 0} where
-  -- a step that a ready thread makes in a state equal to this one
-  pub stepped_by : (rules : Rules Memory Place) (program : Program)
-      (state copy next : State Machine Memory Place Form) (t : ℕ) (thread was : Thread Place) (op : Op)
-      → ready program state t ≡ Some (thread, op) → copy ≡ state → slice_get copy.threads t ≡ Some was
-      → next ≡ stepped rules copy t op was → next ≡ stepped rules state t op thread
-  stepped_by rules program state copy next t thread was op is same there made =
-      let at : slice_get copy.threads t ≡ slice_get state.threads t = λ i. slice_get (same i).threads t in
-      let whose : was ≡ thread = same_Some _ _ (sym there ∙ at ∙ (ready_pieces program state t thread op is).0) in
-      made ∙ (λ i. stepped rules (same i) t op (whose i))
+-- the step that a ready thread makes, in a state equal to this one
+pub step_by : {Machine Memory Place Form : Type 0} (rules : Rules Memory Place) (program : Program)
+    (state : State Machine Memory Place Form) {copy next : State Machine Memory Place Form} (t : ℕ)
+    {thread was : Thread Place} {op : Op} → ready program state t ≡ Some (thread, op) → copy ≡ state
+    → slice_get copy.threads t ≡ Some was → next ≡ stepped rules copy t op was
+    → step rules program state t ≡ Some next
+step_by rules program state t {thread} {was} {op} is same there made =
+    let whose : was ≡ thread = same_Some _ _ (sym (rw same at there) ∙ (ready_pieces program state t is).0) in
+    ap (λ r. option_map (λ (thread, op). stepped rules state t op thread) r) is
+    ∙ ap Some (sym (made ∙ (λ i. stepped rules (same i) t op (whose i))))
 
 module _ {Place : Type 0} (found thread : Thread Place) (held : Option Place) (h : held ≡ found.place)
     (is : found ≡ thread) where
   -- a thread out of which its place was moved is the thread, with that place
   pub with_held : ◌≡◌ {A = Thread Place} (record { replies = found.replies; place = held; notes = found.notes }) thread
-  with_held = (λ i. record { replies = found.replies; place = h i; notes = found.notes }) ∙ is
+  with_held = rw h is
 
   -- the place of its next access
-  pub held_or : (place first begun : Place) → place ≡ place_or held first → first ≡ begun
+  pub held_or : {place first begun : Place} → place ≡ place_or held first → first ≡ begun
       → place ≡ place_or thread.place begun
-  held_or place first begun p f = p ∙ (λ i. place_or ((h ∙ ap (λ x. x.place) is) i) (f i))
+  held_or p f = rw (p, h, is, f) refl
 
 module _ {Machine Memory Place Form : Type 0} (state : State Machine Memory Place Form) (t : ℕ) where
   -- the state that an access makes, by what comes of it
@@ -86,67 +78,28 @@ module _ {Machine Memory Place Form : Type 0} (state : State Machine Memory Plac
       → ◌≡◌ {A = State Machine Memory Place Form}
       (record { memory = memory; threads = threads; steps = state.steps + 1; astray = astray })
       (stepped rules state t op thread)
-  step_made {after} {threads = threads} {astray = astray} rules op thread place memory outcome note is acted unchanged
-      moved found noted counted set copied from s =
-      let notes = notes_at_step thread.place thread.notes (finished_counts state.threads) in
-      let a : after ≡ after_outcome (record { replies = thread.replies; place = Some place; notes = notes }) outcome =
-      moved ∙ (λ i. after_outcome (record {
-        replies = (found i).replies;
-        place = Some place;
-        notes = with_note (found i).notes note;
-      }) outcome) ∙ ap (λ n. after_outcome (record { replies = thread.replies; place = Some place; notes = n }) outcome)
-      (noted ∙ ap (λ ts. notes_at_step thread.place thread.notes (finished_counts ts)) counted) in
-      let ts = set ∙ (λ i. slice_set (copied i) (from i) after) in
-      let at : Place → Thread Place = λ p. record { replies = thread.replies; place = Some p; notes = notes } in
-      let stated : ◌≡◌ {A = State Machine Memory Place Form}
-      (record { memory = memory; threads = threads; steps = state.steps + 1; astray = astray })
-      (record {
-        memory = memory;
-        threads = slice_set state.threads t (after_outcome (at place) outcome);
-        steps = state.steps + 1;
-        astray = astray_by t outcome;
-      }) =
-      λ i. record {
-        memory = memory;
-        threads = (ts ∙ ap (slice_set state.threads t) a) i;
-        steps = state.steps + 1;
-        astray = s i;
-      } in
-      stated
-      ∙ (accessed (at place) memory outcome (λ o. sym (ap (λ x. x.0) acted) ∙ unchanged (ap (λ x. x.1) acted ∙ o))
-      ∙ (ap (after_access state t (at place)) (sym acted)
-      ∙ ap (λ p. after_access state t (at p) (rules.act op p state.memory)) is))
+  step_made rules op thread place memory outcome note is acted unchanged moved found noted counted set copied from s =
+      rw (← is, acted, set, copied, from, moved, found, s, rw counted at noted)
+      (accessed _ memory outcome (rw acted at unchanged))
 
 -- an operation that waits for another thread may begin once that thread has finished enough of its own
-pub due_by : {Place : Type 0} (program : Program) (threads : List (Thread Place)) (t : ℕ) (thread found : Thread Place)
-    (index other from count asked finished : ℕ) → false ≡ is_some thread.place → index ≡ length thread.replies
-    → Some (other, count) ≡ after_at program t index → from ≡ other → slice_get threads from ≡ Some found
-    → asked ≡ count → finished ≡ length found.replies
+pub due_by : {Place : Type 0} (program : Program) (threads : List (Thread Place)) (t : ℕ) (thread : Thread Place)
+    {found : Thread Place} {index other from count asked finished : ℕ} → false ≡ is_some thread.place
+    → index ≡ length thread.replies → Some (other, count) ≡ after_at program t index → from ≡ other
+    → slice_get threads from ≡ Some found → asked ≡ count → finished ≡ length found.replies
     → nat_le asked finished ≡ is_due program (finished_counts threads) t thread
-due_by {Place} program threads t thread found index other from count asked finished idle index_is after from_is found_at
-    asked_is finished_is =
-    let counts = finished_counts threads in
-    let at =
-    map-get (λ (x : Thread Place). length x.replies) threads other found
-    (ap (slice_get threads) (sym from_is) ∙ found_at) in
-    sym (ap (λ b. if b then true else is_met counts (after_at program t (length thread.replies))) (sym idle)
-    ∙ (ap (λ i. is_met counts (after_at program t i)) (sym index_is)
-    ∙ (ap (is_met counts) (sym after)
-    ∙ (ap (λ o. option_map_or (λ n. nat_le count n) o false) at
-    ∙ (ap (λ n. nat_le n (length found.replies)) (sym asked_is) ∙ ap (nat_le asked) (sym finished_is))))))
+due_by {Place} program threads t thread {other = other} idle index_is after from_is found_at asked_is finished_is =
+    rw (← idle, ← index_is, ← after, asked_is, finished_is)
+    (rw (map-get (λ (x : Thread Place). length x.replies) threads other _ (rw from_is at found_at)) refl)
 
 -- the next operation of a thread, from the operations of its own
 module _ {Place : Type 0} (program : Program) (counts : List ℕ) (t : ℕ) (thread : Thread Place) where
-  pub next_due : (threads : List (List Op)) (from n : ℕ) (ops : List Op) (held : Option Op) (op : Op)
+  pub next_due : {threads : List (List Op)} {from n : ℕ} {ops : List Op} {held : Option Op} {op : Op}
       → threads ≡ program.threads → from ≡ t → n ≡ length thread.replies → slice_get threads from ≡ Some ops
       → Some op ≡ held → held ≡ slice_get ops n → true ≡ is_due program counts t thread
       → next_op program counts t thread ≡ Some op
-  next_due threads from n ops held op all from_is n_is at op_is held_is due =
-      let there : slice_get program.threads t ≡ Some ops =
-      ap (slice_get program.threads) (sym from_is) ∙ (ap (λ ts. slice_get ts from) (sym all) ∙ at) in
-      ap (λ b. if b then op_at program t (length thread.replies) else None) (sym due)
-      ∙ (ap (option_and_then (λ os. slice_get os (length thread.replies))) there
-      ∙ (ap (slice_get ops) (sym n_is) ∙ (sym held_is ∙ sym op_is)))
+  next_due all from_is n_is at op_is held_is due =
+      rw (← due, ← all, ← from_is, at, ← n_is, ← held_is, op_is) refl
 
   pub next_not_due : false ≡ is_due program counts t thread → next_op program counts t thread ≡ None
-  next_not_due due = ap (λ b. if b then op_at program t (length thread.replies) else None) (sym due)
+  next_not_due due = rw (← due) refl

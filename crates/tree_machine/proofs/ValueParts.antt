@@ -1,7 +1,7 @@
 -- Values that are each made into a part: what the parts say of the values, and the values of the parts.
 use Rattle.std.specs.Prelude.{◌≡◌, ℕ, ◌<◌, List, [], ◌∷◌, map, length, slice_get, Option, Some, None, All, refl}
 use Rattle.std.specs.List.{AllZip}
-use Rattle.std.proofs.Common.{sym, subst}
+use Rattle.std.proofs.Common.{subst}
 use Rattle.std.proofs.lemmas.List.{length-map}
 use Rattle.std.proofs.lemmas.List.Elements.{All-nil, All-cons, All-head, All-tail, All-map, All-weaker}
 use Rattle.tree_machine.proofs.Lists.{get_at}
@@ -24,16 +24,14 @@ module _ {A B : Type 0} (f : A → B) where
     pub zip_map : ((a b : A) → P a b → Q (f a) (f b)) → (xs ys : List A) → AllZip P xs ys
         → AllZip Q (map f xs) (map f ys)
     zip_map to [] [] h = tt
-    zip_map to [] (y ∷ ys) h = absurd h
-    zip_map to (x ∷ xs) [] h = absurd h
     zip_map to (x ∷ xs) (y ∷ ys) h = (to x y h.0, zip_map to xs ys h.1)
+    zip_map to _ _ h = absurd h
 
     pub zip_unmap : ((a b : A) → Q (f a) (f b) → P a b) → (xs ys : List A) → AllZip Q (map f xs) (map f ys)
         → AllZip P xs ys
     zip_unmap back [] [] h = tt
-    zip_unmap back [] (y ∷ ys) h = absurd h
-    zip_unmap back (x ∷ xs) [] h = absurd h
     zip_unmap back (x ∷ xs) (y ∷ ys) h = (back x y h.0, zip_unmap back xs ys h.1)
+    zip_unmap back _ _ h = absurd h
 
 -- ---- the parts of values
 
@@ -61,25 +59,20 @@ module _ {A : Type 0} (part : A → Part) where
     pub all_below : ((a : A) → T a → IsPartBelow n m (part a)) → (xs : List A) → All T xs
         → All (IsPartBelow i j) (map part xs)
     all_below below xs h =
-        subst (λ a. All (IsPartBelow a j) (map part xs)) (sym e)
-        (subst (λ b. All (IsPartBelow n b) (map part xs)) (sym d)
-        (All-map (IsPartBelow n m) part xs (All-weaker T (λ x. IsPartBelow n m (part x)) below xs h)))
+        rw (e, d) (All-map (IsPartBelow n m) part xs (All-weaker T (λ x. IsPartBelow n m (part x)) below xs h))
 
     -- each value whose part has its numbers below these
     pub all_in : ((a : A) → IsPartBelow n m (part a) → T a) → (xs : List A) → All (IsPartBelow i j) (map part xs)
         → All T xs
-    all_in inner =
-        from_map part T (IsPartBelow i j)
-        (λ a k. inner a (subst (λ y. IsPartBelow n y (part a)) d (subst (λ x. IsPartBelow x j (part a)) e k)))
+    all_in inner = from_map part T (IsPartBelow i j) (λ a k. inner a (rw (e, d) at k))
 
   module _ (xs ys : List A) (x y : ℕ) where
     -- there are as many parts as values
     pub parts_within : (x < length xs) × (y < length ys) → (x < length (map part xs)) × (y < length (map part ys))
-    parts_within r =
-        (subst (λ n. x < n) (sym (length-map xs part)) r.0, subst (λ n. y < n) (sym (length-map ys part)) r.1)
+    parts_within r = simp length-map r
 
     pub values_within : (x < length (map part xs)) × (y < length (map part ys)) → (x < length xs) × (y < length ys)
-    values_within r = (subst (λ n. x < n) (length-map xs part) r.0, subst (λ n. y < n) (length-map ys part) r.1)
+    values_within r = simp length-map at r
 
     -- the parts at two places are paired as the values there are
     module _ (P R : ℕ → ℕ → Type 0) (T : Option A → Option A → Type 0) (r : (x < length xs) × (y < length ys)) where
@@ -89,9 +82,7 @@ module _ {A : Type 0} (part : A → Part) where
       parts_at to h =
           let s = get_at xs x r.0 in
           let t = get_at ys y r.1 in
-          subst (λ c. ArePartsPaired P R c (part_at (map part ys) y)) (sym (part_map_at part xs x s.0 s.1))
-          (subst (ArePartsPaired P R (part s.0)) (sym (part_map_at part ys y t.0 t.1))
-          (to s.0 t.0 (subst (λ o. T o (Some t.0)) s.1 (subst (T (slice_get xs x)) t.1 h))))
+          rw (part_map_at part xs x s.0 s.1, part_map_at part ys y t.0 t.1) (to s.0 t.0 (rw (s.1, t.1) at h))
 
       pub values_at : ((a b : A) → ArePartsPaired P R (part a) (part b) → T (Some a) (Some b))
           → ArePartsPaired P R (part_at (map part xs) x) (part_at (map part ys) y)
@@ -99,8 +90,5 @@ module _ {A : Type 0} (part : A → Part) where
       values_at back h =
           let s = get_at xs x r.0 in
           let t = get_at ys y r.1 in
-          subst (λ o. T o (slice_get ys y)) (sym s.1)
-          (subst (T (Some s.0)) (sym t.1)
-          (back s.0 t.0
-          (subst (λ c. ArePartsPaired P R c (part t.0)) (part_map_at part xs x s.0 s.1)
-          (subst (ArePartsPaired P R (part_at (map part xs) x)) (part_map_at part ys y t.0 t.1) h))))
+          rw (s.1, t.1)
+          (back s.0 t.0 (rw (part_map_at part xs x s.0 s.1, part_map_at part ys y t.0 t.1) at h))

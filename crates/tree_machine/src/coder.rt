@@ -150,7 +150,14 @@ impl Model for Coder {
 impl Coder {
     /// A coder of nothing. It allocates nothing.
     pub(crate) fn none(alloc: Global) -> Coder
-        ensures { result ≡ record { nodes_below = 0; records_below = 0; nodes = []; records = []; queue = []; bytes = [] } }
+        ensures { result ≡ record {
+          nodes_below = 0;
+          records_below = 0;
+          nodes = [];
+          records = [];
+          queue = [];
+          bytes = [];
+        } }
     {
         Coder {
             nodes: Numbering::none(alloc),

@@ -1,5 +1,6 @@
 //! Bytes that parts are written to, one behind the other.
-ghost use Rattle.std.specs.Prelude.{◌≡◌, ◌<◌, ◌≤◌, ◌+◌, ◌*◌, ◌++◌, ◌∷◌, [], length, take, drop, IfOk, IfSome, OnOk, OnErr};
+ghost use Rattle.std.specs.Prelude.{◌≡◌, ◌<◌, ◌≤◌, ◌+◌, ◌*◌, ◌++◌, ◌∷◌, [], length, take, drop};
+ghost use Rattle.std.specs.Prelude.{IfOk, IfSome, OnOk, OnErr};
 ghost use Rattle.std.specs.List.{flat_map};
 ghost use Rattle.tree_machine.specs.Flat.{number_code, short_head, long_code, facts_code};
 
@@ -9,8 +10,8 @@ use sched_program::OutOfMemory;
 use std::alloc::Global;
 use std::marker::Model;
 
-/// The most bytes that are written at once: what the threads did takes at most 1 + 4 for the replies, 1 + 4 * 13 for the
-/// notes, and 2 for who went astray. A part with a head of one byte takes at most 16.
+/// The most bytes that are written at once. What the threads did takes at most 1 + 4 for the replies, 1 + 4 * 13 for
+/// the notes, and 2 for who went astray; a part with a head of one byte takes at most 16.
 const ROOM: usize = 60;
 
 /// The zeros that `lengthen` appends.

@@ -1,6 +1,6 @@
 -- The lines of the entries of a lawful and sound book can be written.
 use Rattle.std.proofs.Common.{◌≡◌, ℕ, ◌+◌, ◌<◌, ◌≤◌, not, false, is_some, Option, None, Some, List, [], ◌∷◌}
-use Rattle.std.proofs.Common.{◌++◌, ◌∙◌, length, position, take, All, true, refl, sym, ap, subst, arith}
+use Rattle.std.proofs.Common.{◌++◌, ◌∙◌, length, position, take, All, true, refl, sym, ap, arith}
 use Rattle.std.specs.Prelude.{IfSome}
 use Rattle.std.proofs.lemmas.Bool.{true≢false, not-false}
 use Rattle.std.proofs.lemmas.List.{length-take-le, take_more}
@@ -20,7 +20,7 @@ use Rattle.lin.specs.Keys.{Keys, reply_on, keys_after}
 use Rattle.lin.specs.Linearization.{GivesReplies}
 use Rattle.lin.proofs.Lists.{IsSomeAnd-value}
 use Rattle.replay.specs.declared.file.line.BookLine.{BookLine}
-use Rattle.replay.specs.Text.Files.{ended, start_text, IsName, IsBookText}
+use Rattle.replay.specs.Text.Files.{ended, start_text, IsName}
 use Rattle.replay.specs.Text.Written.{head_text, IsProper}
 use Rattle.replay.proofs.Text.Printing.{text_of, book_text, is_written, written_push, written_start}
 use Rattle.replay.specs.declared.finding.Finding.{Finding}
@@ -66,15 +66,18 @@ module _ {Machine Memory Place Form : Type 0} (rules : Rules Memory Place) (prog
       → AreWritable es
   writable same machine es law bounded sound i e at some =
       let from = law.origins i e at some in
-      let thread : from.origin.thread < length program.threads =
-      machine.is_thread from.parent.state e.state from.origin.thread from.step in
-      let within : i < length es = slice_get_within es i e at in
-      let threads : length program.threads ≤ 4 = limits.thread_count in
-      let earlier : from.origin.parent < i = from.earlier in
       let named = found_names e.state e.finding (law.findings i e at) (sound i e at) in (
         record { parent = from.origin.parent; thread = from.origin.thread; order = named.0 },
         record { step = from.recorded; order = named.1 },
-        record { parent = omega arith; thread = omega arith; names = named.2 },
+        record {
+          parent = omega (arith, from.earlier, slice_get_within es i e at);
+          thread = omega (
+            arith,
+            limits.thread_count,
+            machine.is_thread from.parent.state e.state from.origin.thread from.step,
+          );
+          names = named.2;
+        },
       )
 
 -- one more line
@@ -112,12 +115,9 @@ written_next {S} count es i e line text more at some is proper added so =
     let taken : length (take i es) ≡ i = length-take-le i es (omega arith) in
     record {
       lines = so.lines ++ line ∷ [];
-      of_entries =
-          subst (λ (fs : List (Entry S)). AreLinesOf fs (so.lines ++ line ∷ [])) (sym longer)
-          (lines_push (take i es) so.lines e line (omega arith) so.of_entries is);
+      of_entries = rw longer (lines_push (take i es) so.lines e line (omega arith) so.of_entries is);
       proper = All-push IsProper so.lines line so.proper proper;
-      whole = added ∙ ap (λ (t : List ℕ). t ++ ended (text_of line ∷ [])) so.whole
-          ∙ sym (written_push count so.lines line);
+      whole = rw (added, so.whole) (sym (written_push count so.lines line));
     }
 
 -- a head and the line of the first entry
@@ -128,8 +128,7 @@ written_none {S} count es empty head text is_empty is_head is = record {
   lines = [];
   of_entries = none es;
   proper = All-nil IsProper;
-  whole = is ∙ ap (λ (t : List ℕ). t ++ ended (start_text ∷ []))
-      (is_head ∙ ap (λ (t : List ℕ). t ++ ended (head_text count ∷ [])) is_empty) ∙ sym (written_start count);
+  whole = rw (is, is_head, is_empty) (sym (written_start count));
 }
   where
     none : (fs : List (Entry S)) → AreLinesOf (take 1 fs) []
@@ -141,12 +140,10 @@ pub written_all : {S : Type 0} (es : List (Entry S)) (text : List ℕ) → 1 ≤
     → HasWritten (length es) es text → IsFileOf es text
 written_all es text some bounded so =
     let count : length es ≡ length so.lines + 1 = lines_count es so.lines some so.of_entries in
-    let whole : text ≡ book_text (length so.lines + 1) so.lines = so.whole ∙ ap (λ n. book_text n so.lines) count in
     record {
       lines = so.lines;
       of_entries = so.of_entries;
-      whole = subst (λ (t : List ℕ). IsBookText t so.lines) (sym whole)
-          (is_written so.lines so.proper (omega arith));
+      whole = rw (so.whole, count) (is_written so.lines so.proper (omega arith));
     }
 
 -- where no entry is the first that is not sound, all are sound

@@ -137,8 +137,7 @@ module _ {Machine Memory Place Form : Type 0} (rules : Rules Memory Place) (prog
         let longer : length (front ++ e ∷ []) ≡ length front + 1 = length_push front e in (
           e.state,
           line_tells front rest e line whole some z.0,
-          subst (λ (b : List (State Machine Memory Place Form)). Continues rules program b lines (states es))
-              (sym joined)
+          rw joined
               (written_continues (front ++ e ∷ []) rest lines (whole ∙ sym (append_assoc front (e ∷ []) rest))
               (omega arith) z.1),
         )

@@ -29,7 +29,7 @@ use Rattle.ellen.specs.Pairs.{AreBoth, AreWordsPaired, AreNodesPaired, AreRecord
 use Rattle.ellen.specs.Pairs.{AreSearchesPaired, AreHelpsPaired, AreResumesPaired, ArePlacesPaired}
 use Rattle.ellen.specs.Parts.{node_part, record_part, held_part, ellen_parts, ellen_code}
 use Rattle.ellen.specs.Parts.{ellen_front_code, ellen_behind_code}
-use Rattle.ellen.specs.Laws.Parts.{node_from, record_from, held_from}
+use Rattle.ellen.specs.Laws.Parts.{node_parts, record_parts, held_parts}
 
 -- what equality pairs is equal
 
@@ -112,13 +112,13 @@ parts_tell : (memory other : EllenMem) (held others : List (Option EllenLoc))
     → ellen_parts memory held ≡ ellen_parts other others → (memory ≡ other) × (held ≡ others)
 parts_tell memory other held others e =
     let nodes : memory.nodes ≡ other.nodes =
-    values_equal node_part (λ a b h. nodes_equal a b (node_from Same Same a b h)) memory.nodes other.nodes
+    values_equal node_part (λ a b h. nodes_equal a b ((node_parts Same Same a b).1 h)) memory.nodes other.nodes
     (λ i. (e i).nodes) in
     let records : memory.records ≡ other.records =
-    values_equal record_part (λ a b h. records_equal a b (record_from Same Same a b h)) memory.records other.records
-    (λ i. (e i).records) in (
+    values_equal record_part (λ a b h. records_equal a b ((record_parts Same Same a b).1 h)) memory.records
+    other.records (λ i. (e i).records) in (
       (λ i. record { nodes = nodes i; records = records i }),
-      values_equal held_part (λ a b h. held_equal a b (held_from Same Same a b h)) held others (λ i. (e i).held),
+      values_equal held_part (λ a b h. held_equal a b ((held_parts Same Same a b).1 h)) held others (λ i. (e i).held),
     )
 
 -- equal bytes are of equal memories and places

@@ -1,10 +1,10 @@
 -- The initial memory has its numbers in range and keeps search order.
-use Rattle.std.specs.Prelude.{◌≡◌, ◌≢◌, ℕ, zero, suc, ◌+◌, ◌<◌, Bool, true, false, if◌then◌else◌, nat_lt, List, []}
-use Rattle.std.specs.Prelude.{◌∷◌, length, fold, refl, Some, slice_get, All}
+use Rattle.std.specs.Prelude.{◌≡◌, ◌≢◌, ℕ, zero, suc, ◌+◌, ◌<◌, ◌≤◌, Bool, true, false, if◌then◌else◌, nat_lt, List, []}
+use Rattle.std.specs.Prelude.{◌∷◌, length, fold, refl, Some, slice_get}
 use Rattle.std.specs.Option.{option_map}
-use Rattle.std.proofs.Common.{arith, ap, ◌⊎◌, inl, inr}
+use Rattle.std.proofs.Common.{arith, ap, ◌⊎◌, inl, inr, length-append}
 use Rattle.std.proofs.lemmas.List.{length-set}
-use Rattle.std.proofs.lemmas.List.Elements.{All-from_recursion}
+use Rattle.std.proofs.lemmas.List.Elements.{All-from_recursion, All-weaker}
 use Rattle.std.proofs.lemmas.Option.{same_Some}
 use Rattle.sched_program.specs.Program.{IsUserKey, AreInitialKeys}
 use Rattle.tree_machine.specs.declared.search_order.Shape.TheVariants as shape
@@ -17,25 +17,22 @@ use Rattle.ellen.specs.declared.memory.UpdateWord.TheVariants.{Untouched}
 use Rattle.ellen.specs.declared.memory.Node.{Node}
 use Rattle.ellen.specs.declared.memory.Node.TheVariants.{Leaf, Internal}
 use Rattle.ellen.specs.declared.memory.EllenMem.{EllenMem}
-use Rattle.ellen.specs.Memory.{shape_in, shapes, key_in, node_at, key_at, with_child, internal_over, with_internal}
+use Rattle.ellen.specs.Memory.{shape_in, shapes, key_in, key_at, with_child, internal_over}
 use Rattle.ellen.specs.Memory.{new_internal}
 use Rattle.ellen.specs.Initial.{empty_tree, put_in, initial_memory}
 use Rattle.ellen.specs.Range.{IsNodeIn, IsInRange}
-use Rattle.ellen.specs.Laws.Range.{set_in, with_child_in, node_in, with_internal_in, three_more}
+use Rattle.ellen.specs.Laws.Range.{either, set_in, with_child_in, node_in, with_internal_in, three_more}
 
 -- ---- numbers in range
 
 put_in_range : (memory : EllenMem) (k : ℕ) → IsInRange memory → IsInRange (put_in memory k)
 put_in_range memory k h =
     let end = end_of (shapes memory) k (length memory.nodes) 0 0 in
-    let appended = with_internal memory k end.leaf in
-    let in_range : IsInRange appended = with_internal_in memory k end.leaf h in
+    let in_range = with_internal_in memory k end.leaf h in
     let more = three_more memory k end.leaf in
-    let s = side_of k (key_at memory end.parent) in
-    let new : new_internal memory < length appended.nodes = omega arith in
-    set_in appended end.parent (with_child s (new_internal memory) (node_at appended end.parent)) in_range
-    (with_child_in (length appended.nodes) (length appended.records) s (new_internal memory)
-    (node_at appended end.parent) (node_in appended end.parent in_range) new)
+    set_in _ end.parent _ in_range
+    (with_child_in _ _ (side_of k (key_at memory end.parent)) (new_internal memory) _ (node_in _ end.parent in_range)
+    (omega arith))
 
 fold_in_range : (keys : List ℕ) (memory : EllenMem) → IsInRange memory → IsInRange (fold put_in memory keys)
 fold_in_range [] memory h = h
@@ -74,15 +71,15 @@ module _ (k j n : ℕ) where
   over_is true = refl
   over_is false = refl
 
-  no_leaf : (b : Bool) (i : ℕ)
-      → shape_in (if b then Internal j Untouched n (n + 1) else Internal k Untouched (n + 1) n) ≡ shape.Leaf i → ⊥
-  no_leaf true i e = cc
-  no_leaf false i e = cc
+  no_leaf : (i : ℕ) → shape_in (internal_over k j n (n + 1)) ≡ shape.Leaf i → ⊥
+  no_leaf i =
+      either (λ node. shape_in node ≡ shape.Leaf i → ⊥) (nat_lt k j) (Internal j Untouched n (n + 1))
+      (Internal k Untouched (n + 1) n) (λ e. cc) (λ e. cc)
 
   new_leaves : (i x : ℕ) → option_map shape_in (slice_get more x) ≡ Some (shape.Leaf i) → (i ≡ k) ⊎ (i ≡ j)
   new_leaves i zero e = inl cc
   new_leaves i (suc zero) e = inr cc
-  new_leaves i (suc (suc zero)) e = absurd (no_leaf (nat_lt k j) i (same_Some _ _ e))
+  new_leaves i (suc (suc zero)) e = absurd (no_leaf i (same_Some _ _ e))
   new_leaves i (suc (suc (suc x))) e = cc
 
 puts : (memory : EllenMem) (k : ℕ) → IsPutIn (shapes memory) (shapes (put_in memory k)) k
@@ -100,26 +97,18 @@ puts memory k =
     })
 
 grows : (memory : EllenMem) (k : ℕ) → length memory.nodes < length (put_in memory k).nodes
-grows memory k =
-    let end = end_of (shapes memory) k (length memory.nodes) 0 0 in
-    let appended = with_internal memory k end.leaf in
-    let more = three_more memory k end.leaf in
-    let same =
-    length-set appended.nodes end.parent
-    (with_child (side_of k (key_at memory end.parent)) (new_internal memory) (node_at appended end.parent)) in
-    omega arith
+grows memory k = rw (length-set, length-append) (omega arith)
 
 -- ---- the tree with the two sentinels
 
-empty_absent : (keys : List ℕ) → All IsUserKey keys → (x j : ℕ) → shapes empty_tree x ≡ Some (shape.Leaf j)
-    → All (λ key. key ≢ j) keys
-empty_absent keys user zero j e = cc
-empty_absent keys user (suc zero) j e =
-    λ i d below same. let is : 101 ≡ j = cc in let low = user i d below in omega arith
-empty_absent keys user (suc (suc zero)) j e =
-    λ i d below same. let is : 102 ≡ j = cc in let low = user i d below in omega arith
-empty_absent keys user (suc (suc (suc x))) j e = cc
+-- its leaves
+sentinels : (x j : ℕ) → shapes empty_tree x ≡ Some (shape.Leaf j) → 101 ≤ j
+sentinels zero j e = cc
+sentinels (suc zero) j e = let is : 101 ≡ j = cc in omega arith
+sentinels (suc (suc zero)) j e = let is : 102 ≡ j = cc in omega arith
+sentinels (suc (suc (suc x))) j e = cc
 
+-- user keys are below the sentinels
 pub initial_ordered : (keys : List ℕ) → AreInitialKeys keys → KeepsSearchOrder (shapes (initial_memory keys))
 initial_ordered keys initial =
     stays_ordered shapes (λ memory. length memory.nodes) put_in puts grows keys empty_tree
@@ -129,6 +118,8 @@ initial_ordered keys initial =
       root_left = 1;
       root_right = 2;
       root = refl;
-      absent = empty_absent keys initial.user_keys;
+      absent =
+          λ x j is. All-weaker IsUserKey (λ key. key ≢ j)
+          (λ key user same. let sentinel = sentinels x j is in omega arith) keys initial.user_keys;
     })
     initial.user_keys initial.distinct

@@ -24,7 +24,7 @@ use Rattle.ellen.specs.Memory.{insert_of, delete_of}
 use Rattle.ellen.specs.Table.{After, found, read_update, read_child, exchange_update, exchange_child}
 use Rattle.ellen.specs.Pairs.{AreBoth, AreWordsPaired, AreNodesPaired, AreRecordsPaired, AreMemoriesPaired, ellen_pairs}
 use Rattle.ellen.specs.Parts.{word_number, word_record}
-use Rattle.ellen.specs.Laws.Parts.{AreFoundPaired, word_to}
+use Rattle.ellen.specs.Laws.Parts.{AreFoundPaired, word_parts}
 
 -- ---- equal tests
 
@@ -58,14 +58,15 @@ module _ (R : ℕ → ℕ → Type 0) (one : IsOneToOne R) where
   -- two exchanges that compare with paired update words succeed together
   pub words_compared : (u v f g : UpdateWord) → AreWordsPaired R u v → AreWordsPaired R f g → is_word u f ≡ is_word v g
   words_compared u v f g p q =
-      let a = word_to R R u v p in
-      let b = word_to R R f g q in
-      let same = records_compared (word_record u) (word_record v) (word_record f) (word_record g) a.1 b.1 in
+      let a = (word_parts R R u v).0 p in
+      let b = (word_parts R R f g).0 q in
+      let same = records_compared _ _ _ _ a.1 b.1 in
       word_is u f ∙ ((λ i. nat_eq (a.0 i) (b.0 i) && same i) ∙ sym (word_is v g))
 
 -- ---- paired nodes have paired fields
 
 module _ (P R : ℕ → ℕ → Type 0) where
+  -- paired nodes have one key
   pub key_paired : (a b : Node) → AreNodesPaired P R a b → key_in a ≡ key_in b
   key_paired (Leaf k) (Leaf j) h = h
   key_paired (Internal k u l r) (Internal j v m s) h = h.0
@@ -122,6 +123,7 @@ replace_node P R memory other x y a b h p g = record {
 
 -- ---- more pairs
 
+-- the pairs behind the fresh ones
 pub behind : (fresh pairs : List (ℕ × ℕ)) (x y : ℕ) → IsAmong pairs x y → IsAmong (fresh ++ pairs) x y
 behind [] pairs x y h = h
 behind (p ∷ fresh) pairs x y h = inr (behind fresh pairs x y h)
@@ -129,9 +131,6 @@ behind (p ∷ fresh) pairs x y h = inr (behind fresh pairs x y h)
 -- these pairs of nodes and of records before those of p
 abbrev pub with_pairs : List (ℕ × ℕ) → List (ℕ × ℕ) → Pairing → Pairing
 with_pairs nodes records p = record { nodes = nodes ++ p.nodes; records = records ++ p.records }
-
-extends : (nodes records : List (ℕ × ℕ)) (p : Pairing) → Extends p (with_pairs nodes records p)
-extends nodes records p = record { nodes = behind nodes p.nodes; records = behind records p.records }
 
 -- ---- kinds of access
 
@@ -151,20 +150,16 @@ module _ (p : Pairing) (m o : EllenMem) (h : ellen_pairs.memories p m o) where
   -- the memories stay as they are
   stay : (a b : Outcome EllenLoc) → Outcomes a b → Steps (m, a) (o, b)
   stay a b k =
-      record {
-        then = p;
-        extends = record { nodes = λ x y q. q; records = λ x y q. q };
-        memories_paired = h;
-        outcomes_paired = k;
-      }
+      let extends : Extends p p = record { nodes = λ x y q. q; records = λ x y q. q } in
+      record { then = p; extends = extends; memories_paired = h; outcomes_paired = k }
 
   found_keeps : {A : Type 0} (T : A → A → Type 0) (x y : Option A) (f g : A → After) → AreBoth T x y
       → ((a b : A) → T a b → Steps (f a) (g b)) → Steps (found m x f) (found o y g)
   found_keeps T None None f g t k = stay Astray Astray tt
   found_keeps T (Some a) (Some b) f g t k = k a b t
-  found_keeps T None (Some b) f g t k = absurd t
-  found_keeps T (Some a) None f g t k = absurd t
+  found_keeps T _ _ f g t k = absurd t
 
+  -- a read of an update word
   pub read_update_keeps : (x y : ℕ) (f g : UpdateWord → Outcome EllenLoc) → P x y
       → ((u v : UpdateWord) → AreWordsPaired R u v → Outcomes (f u) (g v))
       → Steps (read_update m x f) (read_update o y g)
@@ -172,6 +167,7 @@ module _ (p : Pairing) (m o : EllenMem) (h : ellen_pairs.memories p m o) where
       found_keeps (AreWordsPaired R) (update_of (node_at m x)) (update_of (node_at o y)) _ _
       (update_paired P R _ _ (h.nodes x y q)) (λ u v w. stay (f u) (g v) (k u v w))
 
+  -- a read of a child
   pub read_child_keeps : (x y : ℕ) (c d : Side) (f g : ℕ → Outcome EllenLoc) → P x y → c ≡ d
       → ((a b : ℕ) → P a b → Outcomes (f a) (g b)) → Steps (read_child m x c f) (read_child o y d g)
   read_child_keeps x y c d f g q e k =
@@ -190,6 +186,20 @@ module _ (p : Pairing) (m o : EllenMem) (h : ellen_pairs.memories p m o) where
     abbrev Later : Outcome EllenLoc → Outcome EllenLoc → Type 0
     Later left right = AreOutcomesPaired (ellen_pairs.places (with_pairs nodes records p)) left right
 
+    -- nodes are replaced on both sides
+    written : (x y : ℕ) (c d : Node) (s t : Outcome EllenLoc) → P x y
+        → (AreNodesPaired Q S (node_at a x) (node_at b y) → AreNodesPaired Q S c d) → Later s t
+        → Steps (set_node a x c, s) (set_node b y d, t)
+    written x y c d s t q new won =
+        let at = behind nodes p.nodes x y q in
+        record {
+          then = with_pairs nodes records p;
+          extends = record { nodes = behind nodes p.nodes; records = behind records p.records };
+          memories_paired = replace_node Q S a b x y c d after at (new (after.nodes x y at));
+          outcomes_paired = won;
+        }
+
+    -- an exchange of an update word
     pub exchange_update_keeps : (x y : ℕ) (e f d g : UpdateWord) (s t : Outcome EllenLoc)
         (k l : UpdateWord → Outcome EllenLoc) → P x y → AreWordsPaired R e f → AreWordsPaired S d g →
         Later s t → ((u v : UpdateWord) → AreWordsPaired R u v → Outcomes (k u) (l v))
@@ -199,36 +209,20 @@ module _ (p : Pairing) (m o : EllenMem) (h : ellen_pairs.memories p m o) where
         (update_paired P R _ _ (h.nodes x y q))
         (λ u v w. choices_paired Steps (is_word u e) (is_word v f) _ _ _ _
         (words_compared R h.records_one_to_one u v e f w same)
-        (record {
-          then = with_pairs nodes records p;
-          extends = extends nodes records p;
-          memories_paired =
-              replace_node Q S a b x y _ _ after (behind nodes p.nodes x y q)
-              (with_update_paired Q S d g _ _ new (after.nodes x y (behind nodes p.nodes x y q)));
-          outcomes_paired = won;
-        })
-        (stay (k u) (l v) (lost u v w)))
+        (written x y _ _ s t q (with_update_paired Q S d g _ _ new) won) (stay (k u) (l v) (lost u v w)))
 
+    -- an exchange of a child
     pub exchange_child_keeps : (x y c d n i : ℕ) (s t k l : Outcome EllenLoc) → P x y → P c d → Q n i → Later s t
         → Outcomes k l → Steps (exchange_child m x c n a s k) (exchange_child o y d i b t l)
     exchange_child_keeps x y c d n i s t k l q same new won lost =
         let sides : side_of (key_at a n) (key_at m x) ≡ side_of (key_at b i) (key_at o y) =
         ap (λ j. side_of j (key_at m x)) (key_paired Q S _ _ (after.nodes n i new))
         ∙ ap (side_of (key_at b i)) (key_paired P R _ _ (h.nodes x y q)) in
-        found_keeps P (child_on (side_of (key_at a n) (key_at m x)) (node_at m x))
-        (child_on (side_of (key_at b i) (key_at o y)) (node_at o y)) _ _
+        found_keeps P (child_on _ (node_at m x)) (child_on _ (node_at o y)) _ _
         (children_paired P R _ _ _ _ sides (h.nodes x y q))
         (λ u v w. choices_paired Steps (nat_eq u c) (nat_eq v d) _ _ _ _
         (same_number P h.nodes_one_to_one u v c d w same)
-        (record {
-          then = with_pairs nodes records p;
-          extends = extends nodes records p;
-          memories_paired =
-              replace_node Q S a b x y _ _ after (behind nodes p.nodes x y q)
-              (with_children_paired Q S _ _ n i _ _ sides new (after.nodes x y (behind nodes p.nodes x y q)));
-          outcomes_paired = won;
-        })
-        (stay k l lost))
+        (written x y _ _ s t q (with_children_paired Q S _ _ n i _ _ sides new) won) (stay k l lost))
 
   -- the record that a row wants is there, of that kind, on both sides, or the row goes astray on both
   pub insert_keeps : (x y : Option Record) (f g : InsertRecord → After) → AreBoth (AreRecordsPaired P R) x y
@@ -239,6 +233,7 @@ module _ (p : Pairing) (m o : EllenMem) (h : ellen_pairs.memories p m o) where
   insert_keeps (Some (Del i)) (Some (Del j)) f g t k = stay Astray Astray tt
   insert_keeps _ _ f g t k = absurd t
 
+  -- and so of a delete
   pub delete_keeps : (x y : Option Record) (f g : DeleteRecord → After) → AreBoth (AreRecordsPaired P R) x y
       → ((i j : DeleteRecord) → AreRecordsPaired P R (Del i) (Del j) → Steps (f i) (g j))
       → Steps (found m (delete_of x) f) (found o (delete_of y) g)

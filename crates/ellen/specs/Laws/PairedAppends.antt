@@ -1,13 +1,13 @@
 -- More pairs pair what fewer do, and new nodes and records, paired under fresh numbers, keep a pairing.
-use Rattle.std.specs.Prelude.{◌≡◌, ℕ, ◌+◌, Bool, true, false, cond, nat_lt, List, [], ◌∷◌, ◌++◌, length, Option, Some}
+use Rattle.std.specs.Prelude.{◌≡◌, ℕ, ◌+◌, nat_lt, List, [], ◌∷◌, ◌++◌, length, Option, Some}
 use Rattle.std.specs.Prelude.{None, refl}
-use Rattle.std.proofs.Common.{◌∙◌, ap, subst, inl, inr, arith, length-append}
+use Rattle.std.proofs.Common.{ap, inl, inr, arith, length-append}
 use Rattle.std.proofs.lemmas.List.{append_assoc}
 use Rattle.tree_machine.specs.Cells.{IsPairedOrNone}
 use Rattle.tree_machine.specs.Laws.Cells.{AllZip-weaker}
 use Rattle.tree_machine.specs.Pairing.{IsAmong, Pairing}
 use Rattle.tree_machine.specs.Parts.{Part, ArePartsPaired}
-use Rattle.tree_machine.proofs.FreshPairs.{fresh_one, fresh_within, fresh_paired}
+use Rattle.tree_machine.proofs.FreshPairs.{choices_paired, fresh_one, fresh_within, fresh_paired}
 use Rattle.ellen.specs.declared.memory.UpdateWord.TheVariants as word
 use Rattle.ellen.specs.declared.memory.Node.{Node}
 use Rattle.ellen.specs.declared.memory.Node.TheVariants.{Leaf, Internal}
@@ -17,9 +17,8 @@ use Rattle.ellen.specs.declared.place.EllenLoc.{EllenLoc}
 use Rattle.ellen.specs.Memory.{node_at, key_at, internal_over, with_internal, add_record}
 use Rattle.ellen.specs.Pairs.{AreBoth, AreNodesPaired, AreRecordsPaired, ArePlacesPaired, AreMemoriesPaired}
 use Rattle.ellen.specs.Pairs.{ellen_pairs}
-use Rattle.ellen.specs.Parts.{node_part, record_part, place_part}
 use Rattle.ellen.specs.Laws.PairedAccesses.{key_paired, with_pairs}
-use Rattle.ellen.specs.Laws.Parts.{AreFoundPaired, node_to, node_from, record_to, record_from, place_to, place_from}
+use Rattle.ellen.specs.Laws.Parts.{AreFoundPaired, node_parts, record_parts, place_parts}
 
 -- ---- more pairs
 
@@ -33,8 +32,7 @@ name_weaker : (P Q : ℕ → ℕ → Type 0) → ((x y : ℕ) → P x y → Q x 
     → IsPairedOrNone Q a b
 name_weaker P Q f None None h = tt
 name_weaker P Q f (Some x) (Some y) h = f x y h
-name_weaker P Q f None (Some y) h = absurd h
-name_weaker P Q f (Some x) None h = absurd h
+name_weaker P Q f _ _ h = absurd h
 
 module _ (P Q R S : ℕ → ℕ → Type 0) (f : (x y : ℕ) → P x y → Q x y) (g : (x y : ℕ) → R x y → S x y) where
   parts_weaker : (a b : Part) → ArePartsPaired P R a b → ArePartsPaired Q S a b
@@ -47,13 +45,15 @@ module _ (P Q R S : ℕ → ℕ → Type 0) (f : (x y : ℕ) → P x y → Q x y
       }
 
   nodes_weaker : (a b : Node) → AreNodesPaired P R a b → AreNodesPaired Q S a b
-  nodes_weaker a b h = node_from Q S a b (parts_weaker (node_part a) (node_part b) (node_to P R a b h))
+  nodes_weaker a b h = (node_parts Q S a b).1 (parts_weaker _ _ ((node_parts P R a b).0 h))
 
+  -- records stay paired
   pub records_weaker : (a b : Record) → AreRecordsPaired P R a b → AreRecordsPaired Q S a b
-  records_weaker a b h = record_from Q S a b (parts_weaker (record_part a) (record_part b) (record_to P R a b h))
+  records_weaker a b h = (record_parts Q S a b).1 (parts_weaker _ _ ((record_parts P R a b).0 h))
 
+  -- places stay paired
   pub places_weaker : (a b : EllenLoc) → ArePlacesPaired P R a b → ArePlacesPaired Q S a b
-  places_weaker a b h = place_from Q S a b (parts_weaker (place_part a) (place_part b) (place_to P R a b h))
+  places_weaker a b h = (place_parts Q S a b).1 (parts_weaker _ _ ((place_parts P R a b).0 h))
 
 -- ---- a fresh pair
 
@@ -107,21 +107,12 @@ append_node ps rs memory other a b h g =
           (records_weaker P Q R R (λ v w q. inr q) (λ v w q. q)) _ _ (h.records x y p);
     }
 
-three_nodes : (xs : List Node) (a b c : Node) → ((xs ++ a ∷ []) ++ b ∷ []) ++ c ∷ [] ≡ xs ++ a ∷ b ∷ c ∷ []
-three_nodes xs a b c = append_assoc (xs ++ a ∷ []) (b ∷ []) (c ∷ []) ∙ append_assoc xs (a ∷ []) (b ∷ c ∷ [])
-
 internal_paired : (P R : ℕ → ℕ → Type 0) (k j i x y v w : ℕ) → j ≡ i → P x v → P y w
     → AreNodesPaired P R (internal_over k j x y) (internal_over k i v w)
 internal_paired P R k j i x y v w e p q =
-    subst (λ z. AreNodesPaired P R (internal_over k j x y) (internal_over k z v w)) e (go (nat_lt k j))
-  where
-    go : (b : Bool) → AreNodesPaired P R (cond b (Internal j word.Untouched x y) (Internal k word.Untouched y x))
-        (cond b (Internal j word.Untouched v w) (Internal k word.Untouched w v))
-    go true = (refl, tt, p, q)
-    go false = (refl, tt, q, p)
-
-renumber : (T : ℕ × ℕ → Type 0) (a b c d : ℕ) → a ≡ c → b ≡ d → T (a, b) → T (c, d)
-renumber T a b c d e f t = subst (λ z. T (c, z)) f (subst (λ z. T (z, b)) e t)
+    choices_paired (AreNodesPaired P R) (nat_lt k j) (nat_lt k i) (Internal j word.Untouched x y)
+    (Internal k word.Untouched y x) (Internal i word.Untouched v w) (Internal k word.Untouched w v) (ap (nat_lt k) e)
+    (e, tt, p, q) (refl, tt, q, p)
 
 -- the fresh pairs of a new internal node, its own first
 abbrev pub fresh_nodes : EllenMem → EllenMem → List (ℕ × ℕ)
@@ -138,9 +129,6 @@ with_leaves m k l = add_node (with_leaf m k) (Leaf (key_at m l))
 
 abbrev with_all : EllenMem → ℕ → ℕ → EllenMem
 with_all m k l = add_node (with_leaves m k l) (internal_over k (key_at m l) (length m.nodes) (length m.nodes + 1))
-
-one_by_one : (m : EllenMem) (k l : ℕ) → with_all m k l ≡ with_internal m k l
-one_by_one m k l = ap (λ ns. record { nodes = ns; records = m.records }) (three_nodes m.nodes _ _ _)
 
 one_more : (m : EllenMem) (k : ℕ) → length (with_leaf m k).nodes ≡ length m.nodes + 1
 one_more m k = length-append m.nodes (Leaf k ∷ [])
@@ -165,26 +153,18 @@ module _ (p : Pairing) (m o : EllenMem) (k l n : ℕ) (h : ellen_pairs.memories 
 
   both_leaves : AreMemoriesPaired (IsAmong two_pairs) (IsAmong p.records) (with_leaves m k l) (with_leaves o k n)
   both_leaves =
-      renumber
-      (λ z. AreMemoriesPaired (IsAmong (z ∷ one_pair)) (IsAmong p.records) (with_leaves m k l) (with_leaves o k n))
-      _ _ _ _ (one_more m k) (one_more o k)
+      rw (one_more m k, one_more o k) at
       (append_node one_pair p.records (with_leaf m k) (with_leaf o k) (Leaf (key_at m l)) (Leaf (key_at o n)) first_leaf
       same_keys)
 
   all_three : AreMemoriesPaired (IsAmong (fresh_nodes m o ++ p.nodes)) (IsAmong p.records) (with_all m k l)
       (with_all o k n)
   all_three =
-      renumber (λ z. AreMemoriesPaired (IsAmong (z ∷ two_pairs)) (IsAmong p.records) (with_all m k l) (with_all o k n))
-      _ _ _ _ (two_more m k l) (two_more o k n)
+      rw (two_more m k l, two_more o k n) at
       (append_node two_pairs p.records (with_leaves m k l) (with_leaves o k n) _ _ both_leaves
-      (internal_paired (IsAmong ((length (with_leaves m k l).nodes, length (with_leaves o k n).nodes) ∷ two_pairs))
-      (IsAmong p.records) k _ _ _ _ _ _ same_keys (inr (inr (inl (refl, refl)))) (inr (inl (refl, refl)))))
+      (internal_paired _ _ k _ _ _ _ _ _ same_keys (inr (inr (inl (refl, refl)))) (inr (inl (refl, refl)))))
 
   -- a new internal node on both sides
   pub append_internal : ellen_pairs.memories (with_pairs (fresh_nodes m o) [] p) (with_internal m k l)
       (with_internal o k n)
-  append_internal =
-      subst (λ z. AreMemoriesPaired (IsAmong (fresh_nodes m o ++ p.nodes)) (IsAmong p.records) z (with_internal o k n))
-      (one_by_one m k l)
-      (subst (λ z. AreMemoriesPaired (IsAmong (fresh_nodes m o ++ p.nodes)) (IsAmong p.records) (with_all m k l) z)
-      (one_by_one o k n) all_three)
+  append_internal = simp append_assoc at all_three

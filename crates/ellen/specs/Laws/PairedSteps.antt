@@ -1,5 +1,5 @@
 -- Accesses of paired places to paired memories keep a pairing, row by row of the place table.
-use Rattle.std.specs.Prelude.{◌≡◌, ℕ, Bool, true, false, cond, nat_eq, List, [], ◌∷◌, ◌++◌, length, Option, Some, None}
+use Rattle.std.specs.Prelude.{◌≡◌, ℕ, Bool, true, false, nat_eq, List, [], ◌∷◌, ◌++◌, length, Option, Some, None}
 use Rattle.std.specs.Prelude.{refl, if◌then◌else◌}
 use Rattle.std.specs.List.{AllZip}
 use Rattle.std.proofs.Common.{ap, subst, inl, inr}
@@ -61,16 +61,14 @@ module _ (p : Pairing) (root : IsAmong p.nodes 0 0) where
   tops_paired : (r s : ℕ) (y z : List ℕ) → R r s → AllZip R y z → AllZip R (top_taken r y).0 (top_taken s z).0
       × R (top_taken r y).1 (top_taken s z).1
   tops_paired r s [] [] h k = (tt, h)
-  tops_paired r s [] (b ∷ z) h k = absurd k
-  tops_paired r s (a ∷ y) [] h k = absurd k
   tops_paired r s (a ∷ y) (b ∷ z) h k = let t = tops_paired a b y z k.0 k.1 in ((h, t.0), t.1)
+  tops_paired r s _ _ h k = absurd k
 
   unwound_paired : (done : Bool) (b : Base) (y z : List ℕ) → AllZip R y z
       → Outcomes (unwound done b y) (unwound done b z)
   unwound_paired done b [] [] k = settled_paired done b
-  unwound_paired done b [] (s ∷ z) k = absurd k
-  unwound_paired done b (r ∷ y) [] k = absurd k
   unwound_paired done b (r ∷ y) (s ∷ z) k = let t = tops_paired r s y z k.0 k.1 in (t.1, (t.0, refl))
+  unwound_paired done b _ _ k = absurd k
 
   returned_paired : (done : Bool) (y z : Resume) → AreResumesPaired P R y z
       → Outcomes (returned done y) (returned done z)
@@ -80,17 +78,12 @@ module _ (p : Pairing) (root : IsAmong p.nodes 0 0) where
 
   stacks_paired : (r s : ℕ) (y z : List ℕ) → R r s → AllZip R y z → AllZip R (y ++ r ∷ []) (z ++ s ∷ [])
   stacks_paired r s [] [] h k = (h, tt)
-  stacks_paired r s [] (b ∷ z) h k = absurd k
-  stacks_paired r s (a ∷ y) [] h k = absurd k
   stacks_paired r s (a ∷ y) (b ∷ z) h k = (k.0, stacks_paired r s y z h k.1)
+  stacks_paired r s _ _ h k = absurd k
 
   marking_paired : (machine : Ellen) (r s : ℕ) → R r s → AreHelpsPaired P R (marking machine r) (marking machine s)
   marking_paired machine r s h =
-      elim machine.mark as (λ b. AreHelpsPaired P R (cond b (Mark r) (Right r)) (cond b (Mark s) (Right s))) [
-        | true
-            ↦ h
-        | false ↦ h
-      ]
+      choices_paired (AreHelpsPaired P R) machine.mark machine.mark (Mark r) (Right r) (Mark s) (Right s) refl h h
 
   help_paired : (machine : Ellen) (u v : UpdateWord) (y z : Resume) → AreWordsPaired R u v → AreResumesPaired P R y z
       → Outcomes (help machine u y) (help machine v z)
@@ -116,13 +109,8 @@ module _ (p : Pairing) (root : IsAmong p.nodes 0 0) where
   flagging_paired : (machine : Ellen) (x y : Above) (l n : ℕ) → AreAbovesPaired P R x y → P l n
       → AreSearchesPaired P R (flagging machine x l) (flagging machine y n)
   flagging_paired machine x y l n h k =
-      elim machine.iflag as
-      (λ b. AreSearchesPaired P R (cond b (IFlag x.node x.update l) (InsOnly x.node l))
-      (cond b (IFlag y.node y.update n) (InsOnly y.node n))) [
-        | true
-            ↦ (h.0, h.1, k)
-        | false ↦ (h.0, k)
-      ]
+      choices_paired (AreSearchesPaired P R) machine.iflag machine.iflag (IFlag x.node x.update l) (InsOnly x.node l)
+      (IFlag y.node y.update n) (InsOnly y.node n) refl (h.0, h.1, k) (h.0, k)
 
   decide_paired : (machine : Ellen) (op : Op) (a b : Option Above) (x y : Above) (l n j i : ℕ)
       → AreBoth (AreAbovesPaired P R) a b → AreAbovesPaired P R x y → P l n → j ≡ i →
@@ -141,8 +129,7 @@ module _ (p : Pairing) (root : IsAmong p.nodes 0 0) where
       (ha, h.0, h.1, hl) (help_first_paired machine x.update y.update h.1))
       (help_first_paired machine a.update b.update ha.1))
       refl
-  decide_paired machine (Delete k) None (Some b) x y l n j i ha h hl e = absurd ha
-  decide_paired machine (Delete k) (Some a) None x y l n j i ha h hl e = absurd ha
+  decide_paired machine (Delete k) _ _ x y l n j i ha h hl e = absurd ha
 
   arrived_paired : (machine : Ellen) (op : Op) (a b : Option Above) (x y : Above) (l n : ℕ) (c d : Node)
       → AreBoth (AreAbovesPaired P R) a b → AreAbovesPaired P R x y → P l n → AreNodesPaired P R c d →
@@ -166,24 +153,15 @@ module _ (machine : Ellen) (op : Op) (p : Pairing) (m o : EllenMem) (h : ellen_p
   abbrev Steps : After → After → Type 0
   Steps left right = AreStepsPaired ellen_pairs p left right
 
-  update_keeps : (a b : Option Above) (x y : ℕ) → AreSearchesPaired Nodes Records (Update a x) (Update b y)
-      → Steps (search_act machine op (Update a x) m) (search_act machine op (Update b y) o)
-  update_keeps a b x y g = read_update_keeps p m o h x y _ _ g.1 (λ u v w. (g.0, g.1, w))
-
-  child_keeps : (a b : Option Above) (x y : ℕ) (u v : UpdateWord)
-      → AreSearchesPaired Nodes Records (Child a x u) (Child b y v)
-      → Steps (search_act machine op (Child a x u) m) (search_act machine op (Child b y v) o)
-  child_keeps a b x y u v g =
+  search_keeps : (at twin : SearchLoc) → AreSearchesPaired Nodes Records at twin
+      → Steps (search_act machine op at m) (search_act machine op twin o)
+  search_keeps (Update a x) (Update b y) g = read_update_keeps p m o h x y _ _ g.1 (λ u v w. (g.0, g.1, w))
+  search_keeps (Child a x u) (Child b y v) g =
       read_child_keeps p m o h x y _ _ _ _ g.1
       (ap (side_of (key_of op)) (key_paired Nodes Records _ _ (h.nodes x y g.1)))
-      (λ c d w. arrived_paired p h.root machine op a b (record { node = x; update = u })
-      (record { node = y; update = v }) c d _ _ g.0 (g.1, g.2) w (h.nodes c d w))
-
+      (λ c d w. arrived_paired p h.root machine op a b _ _ c d _ _ g.0 (g.1, g.2) w (h.nodes c d w))
   -- the exchange of an insert's flag: three nodes and a record are new
-  insert_flag_keeps : (x y : ℕ) (u v : UpdateWord) (l n : ℕ)
-      → AreSearchesPaired Nodes Records (IFlag x u l) (IFlag y v n)
-      → Steps (search_act machine op (IFlag x u l) m) (search_act machine op (IFlag y v n) o)
-  insert_flag_keeps x y u v l n g =
+  search_keeps (IFlag x u l) (IFlag y v n) g =
       exchange_update_keeps p m o h (fresh_nodes m o) fresh_record _ _
       (append_record (fresh_nodes m o ++ p.nodes) p.records (with_internal m (key_of op) l)
       (with_internal o (key_of op) n)
@@ -191,19 +169,12 @@ module _ (machine : Ellen) (op : Op) (p : Pairing) (m o : EllenMem) (h : ellen_p
       (Ins (record { parent = y; leaf = n; new = new_internal o }))
       (append_internal p m o (key_of op) l n h g.2) (inr (inr (inr g.0)), inr (inr (inr g.2)), inl (refl, refl)))
       x y u v _ _ _ _ _ _ g.0 g.1 (inl (refl, refl)) (inl (refl, refl), (tt, refl))
-      (λ w z k. help_first_paired p h.root machine w z k)
-
-  insert_only_keeps : (x y l n : ℕ) → AreSearchesPaired Nodes Records (InsOnly x l) (InsOnly y n)
-      → Steps (search_act machine op (InsOnly x l) m) (search_act machine op (InsOnly y n) o)
-  insert_only_keeps x y l n g =
+      (help_first_paired p h.root machine)
+  search_keeps (InsOnly x l) (InsOnly y n) g =
       exchange_child_keeps p m o h (fresh_nodes m o) [] _ _ (append_internal p m o (key_of op) l n h g.1)
       x y l n (new_internal m) (new_internal o) _ _ _ _ g.0 g.1 (inl (refl, refl)) refl (tt, h.root)
-
   -- the exchange of a delete's flag: a record is new, which the grandparent's update word names
-  delete_flag_keeps : (a b : Above) (x y : ℕ) (u v : UpdateWord) (l n : ℕ)
-      → AreSearchesPaired Nodes Records (DFlag a x u l) (DFlag b y v n) →
-      Steps (search_act machine op (DFlag a x u l) m) (search_act machine op (DFlag b y v n) o)
-  delete_flag_keeps a b x y u v l n g =
+  search_keeps (DFlag a x u l) (DFlag b y v n) g =
       let left : Record = Del (record { grandparent = a.node; parent = x; leaf = l; parent_update = u }) in
       let right : Record = Del (record { grandparent = b.node; parent = y; leaf = n; parent_update = v }) in
       let more =
@@ -211,64 +182,13 @@ module _ (machine : Ellen) (op : Op) (p : Pairing) (m o : EllenMem) (h : ellen_p
       (g.0.0, g.1, g.3, g.2) in
       exchange_update_keeps p m o h [] fresh_record _ _ (append_record p.nodes p.records m o left right h more)
       a.node b.node a.update b.update _ _ _ _ _ _ g.0.0 g.0.1 (inl (refl, refl)) (
-        marking_paired (with_pairs [] fresh_record p) h.root machine (length m.records) (length o.records)
-            (inl (refl, refl)),
+        marking_paired (with_pairs [] fresh_record p) h.root machine _ _ (inl (refl, refl)),
         (tt, refl),
       )
-      (λ w z k. help_first_paired p h.root machine w z k)
-
-  search_keeps : (at twin : SearchLoc) → AreSearchesPaired Nodes Records at twin
-      → Steps (search_act machine op at m) (search_act machine op twin o)
-  search_keeps (Update a x) (Update b y) g = update_keeps a b x y g
-  search_keeps (Child a x u) (Child b y v) g = child_keeps a b x y u v g
-  search_keeps (IFlag x u l) (IFlag y v n) g = insert_flag_keeps x y u v l n g
-  search_keeps (InsOnly x l) (InsOnly y n) g = insert_only_keeps x y l n g
-  search_keeps (DFlag a x u l) (DFlag b y v n) g = delete_flag_keeps a b x y u v l n g
+      (help_first_paired p h.root machine)
   search_keeps _ _ g = absurd g
 
   module _ (y z : Resume) (rest : AreResumesPaired Nodes Records y z) where
-    insert_child_keeps : (r s : ℕ) → Records r s
-        → Steps (help_act machine (InsChild r) y m) (help_act machine (InsChild s) z o)
-    insert_child_keeps r s g =
-        insert_keeps p m o h _ _ _ _ (h.records r s g)
-        (λ i j k. exchange_child_keeps p m o h [] [] m o h i.parent j.parent i.leaf j.leaf i.new j.new _ _ _ _ k.0
-        k.1 k.2 (g, rest) (g, rest))
-
-    insert_clean_keeps : (r s : ℕ) → Records r s
-        → Steps (help_act machine (InsClean r) y m) (help_act machine (InsClean s) z o)
-    insert_clean_keeps r s g =
-        insert_keeps p m o h _ _ _ _ (h.records r s g)
-        (λ i j k. exchange_update_keeps p m o h [] [] m o h i.parent j.parent _ _ _ _ _ _ _ _ k.0 g g
-        (returned_paired p h.root true y z rest) (λ u v w. returned_paired p h.root true y z rest))
-
-    mark_keeps : (r s : ℕ) → Records r s → Steps (help_act machine (Mark r) y m) (help_act machine (Mark s) z o)
-    mark_keeps r s g =
-        delete_keeps p m o h _ _ _ _ (h.records r s g)
-        (λ i j k. exchange_update_keeps p m o h [] [] m o h i.parent j.parent _ _ _ _ _ _ _ _ k.1 k.3 g (g, rest)
-        (λ u v w. choices_paired (Outcomes p h.root) (is_word u (word.Mark r)) (is_word v (word.Mark s)) _ _ _ _
-        (words_compared Records h.records_one_to_one u v (word.Mark r) (word.Mark s) w g) (g, rest)
-        (help_paired p h.root machine u v _ _ w (stacks_paired p h.root r s y.stack z.stack g rest.0, rest.1))))
-
-    right_keeps : (r s : ℕ) → Records r s → Steps (help_act machine (Right r) y m) (help_act machine (Right s) z o)
-    right_keeps r s g =
-        delete_keeps p m o h _ _ _ _ (h.records r s g)
-        (λ i j k. read_child_keeps p m o h i.parent j.parent side.Right side.Right _ _ k.1 refl
-        (λ c d w. (
-          (
-            g,
-            ap (λ b. if b then side.Left else side.Right)
-                (same_number Nodes h.nodes_one_to_one c d i.leaf j.leaf w k.2),
-          ),
-          rest,
-        )))
-
-    splice_keeps : (r s x t : ℕ) → Records r s → Nodes x t
-        → Steps (help_act machine (Splice r x) y m) (help_act machine (Splice s t) z o)
-    splice_keeps r s x t g n =
-        delete_keeps p m o h _ _ _ _ (h.records r s g)
-        (λ i j k. exchange_child_keeps p m o h [] [] m o h i.grandparent j.grandparent i.parent j.parent x t _ _ _ _
-        k.0 k.1 n (g, rest) (g, rest))
-
     unflagged_keeps : (done : Bool) (r s : ℕ) → Records r s → Steps (unflagged done r y m) (unflagged done s z o)
     unflagged_keeps done r s g =
         delete_keeps p m o h _ _ _ _ (h.records r s g)
@@ -277,14 +197,32 @@ module _ (machine : Ellen) (op : Op) (p : Pairing) (m o : EllenMem) (h : ellen_p
 
     help_keeps : (at twin : HelpLoc) → AreHelpsPaired Nodes Records at twin
         → Steps (help_act machine at y m) (help_act machine twin z o)
-    help_keeps (InsChild r) (InsChild s) g = insert_child_keeps r s g
-    help_keeps (InsClean r) (InsClean s) g = insert_clean_keeps r s g
-    help_keeps (Mark r) (Mark s) g = mark_keeps r s g
-    help_keeps (Right r) (Right s) g = right_keeps r s g
+    help_keeps (InsChild r) (InsChild s) g =
+        insert_keeps p m o h _ _ _ _ (h.records r s g)
+        (λ i j k. exchange_child_keeps p m o h [] [] m o h i.parent j.parent i.leaf j.leaf i.new j.new _ _ _ _ k.0
+        k.1 k.2 (g, rest) (g, rest))
+    help_keeps (InsClean r) (InsClean s) g =
+        insert_keeps p m o h _ _ _ _ (h.records r s g)
+        (λ i j k. exchange_update_keeps p m o h [] [] m o h i.parent j.parent _ _ _ _ _ _ _ _ k.0 g g
+        (returned_paired p h.root true y z rest) (λ u v w. returned_paired p h.root true y z rest))
+    help_keeps (Mark r) (Mark s) g =
+        delete_keeps p m o h _ _ _ _ (h.records r s g)
+        (λ i j k. exchange_update_keeps p m o h [] [] m o h i.parent j.parent _ _ _ _ _ _ _ _ k.1 k.3 g (g, rest)
+        (λ u v w. choices_paired (Outcomes p h.root) (is_word u (word.Mark r)) (is_word v (word.Mark s)) _ _ _ _
+        (words_compared Records h.records_one_to_one u v (word.Mark r) (word.Mark s) w g) (g, rest)
+        (help_paired p h.root machine u v _ _ w (stacks_paired p h.root r s y.stack z.stack g rest.0, rest.1))))
+    help_keeps (Right r) (Right s) g =
+        delete_keeps p m o h _ _ _ _ (h.records r s g)
+        (λ i j k. read_child_keeps p m o h i.parent j.parent side.Right side.Right _ _ k.1 refl
+        (λ c d w. let same = same_number Nodes h.nodes_one_to_one c d i.leaf j.leaf w k.2 in
+        ((g, ap (λ b. if b then side.Left else side.Right) same), rest)))
     help_keeps (Other r c) (Other s d) g =
         delete_keeps p m o h _ _ _ _ (h.records r s g.0)
         (λ i j k. read_child_keeps p m o h i.parent j.parent c d _ _ k.1 g.1 (λ a b w. ((g.0, w), rest)))
-    help_keeps (Splice r x) (Splice s t) g = splice_keeps r s x t g.0 g.1
+    help_keeps (Splice r x) (Splice s t) g =
+        delete_keeps p m o h _ _ _ _ (h.records r s g.0)
+        (λ i j k. exchange_child_keeps p m o h [] [] m o h i.grandparent j.grandparent i.parent j.parent x t _ _ _ _
+        k.0 k.1 g.1 (g.0, rest) (g.0, rest))
     help_keeps (DelClean r) (DelClean s) g = unflagged_keeps true r s g
     help_keeps (Back r) (Back s) g = unflagged_keeps false r s g
     help_keeps _ _ g = absurd g

@@ -41,125 +41,109 @@ module _ (P R : ℕ → ℕ → Type 0) where
 
   -- ---- update words
 
-  pub word_to : (u v : UpdateWord) → AreWordsPaired R u v → (word_number u ≡ word_number v)
-      × IsPairedOrNone R (word_record u) (word_record v)
-  word_to word.Untouched word.Untouched h = (refl, tt)
-  word_to (word.Clean r) (word.Clean s) h = (refl, h)
-  word_to (word.InsertFlag r) (word.InsertFlag s) h = (refl, h)
-  word_to (word.DeleteFlag r) (word.DeleteFlag s) h = (refl, h)
-  word_to (word.Mark r) (word.Mark s) h = (refl, h)
-  word_to _ _ h = absurd h
-
-  word_from : (u v : UpdateWord) → word_number u ≡ word_number v → IsPairedOrNone R (word_record u) (word_record v)
-      → AreWordsPaired R u v
-  word_from word.Untouched word.Untouched e h = tt
-  word_from (word.Clean r) (word.Clean s) e h = h
-  word_from (word.InsertFlag r) (word.InsertFlag s) e h = h
-  word_from (word.DeleteFlag r) (word.DeleteFlag s) e h = h
-  word_from (word.Mark r) (word.Mark s) e h = h
-  word_from _ _ e h = absurd (omega arith)
+  -- words are paired exactly if they are of one kind and their records are paired
+  pub word_parts : (u v : UpdateWord)
+      → AreWordsPaired R u v ↔ (word_number u ≡ word_number v) × IsPairedOrNone R (word_record u) (word_record v)
+  word_parts word.Untouched word.Untouched = (λ h. (refl, tt), λ h. tt)
+  word_parts (word.Clean r) (word.Clean s) = (λ h. (refl, h), λ h. h.1)
+  word_parts (word.InsertFlag r) (word.InsertFlag s) = (λ h. (refl, h), λ h. h.1)
+  word_parts (word.DeleteFlag r) (word.DeleteFlag s) = (λ h. (refl, h), λ h. h.1)
+  word_parts (word.Mark r) (word.Mark s) = (λ h. (refl, h), λ h. h.1)
+  word_parts _ _ = (λ h. absurd h, λ h. let e = h.0 in absurd (omega arith))
 
   -- ---- nodes and records
 
-  pub node_to : (a b : Node) → AreNodesPaired P R a b → Parted (node_part a) (node_part b)
-  node_to (Leaf k) (Leaf j) h = record { facts = ap (λ x. x ∷ []) h; nodes = tt; records = tt }
-  node_to (Internal k u l r) (Internal j v m s) h = let key = h.0 in let w = word_to u v h.1 in
-      let kind = w.0 in record { facts = cc; nodes = (h.2, (h.3, tt)); records = (w.1, tt) }
-  node_to _ _ h = absurd h
+  -- nodes are paired exactly if their parts are
+  pub node_parts : (a b : Node) → AreNodesPaired P R a b ↔ Parted (node_part a) (node_part b)
+  node_parts (Leaf k) (Leaf j) = (
+    (λ h. record { facts = ap (λ x. x ∷ []) h; nodes = tt; records = tt }),
+    (λ h. let f = h.facts in cc),
+  )
+  node_parts (Internal k u l r) (Internal j v m s) = let word = word_parts u v in (
+    (λ h. let key = h.0 in let w = word.0 h.1 in let kind = w.0 in
+        record { facts = cc; nodes = (h.2, (h.3, tt)); records = (w.1, tt) }),
+    (λ h. let f = h.facts in
+        ((let e : k ≡ j = cc in e), word.1 ((cc), h.records.0), h.nodes.0, h.nodes.1.0)),
+  )
+  node_parts _ _ = (λ h. absurd h, λ h. let f = h.facts in cc)
 
-  pub node_from : (a b : Node) → Parted (node_part a) (node_part b) → AreNodesPaired P R a b
-  node_from (Leaf k) (Leaf j) h = let f = h.facts in cc
-  node_from (Internal k u l r) (Internal j v m s) h =
-      let f = h.facts in ((let e : k ≡ j = cc in e), word_from u v (cc) h.records.0, h.nodes.0, h.nodes.1.0)
-  node_from _ _ h = let f = h.facts in cc
-
-  pub record_to : (a b : Record) → AreRecordsPaired P R a b → Parted (record_part a) (record_part b)
-  record_to (Ins i) (Ins j) h = record { facts = refl; nodes = (h.0, (h.1, (h.2, tt))); records = tt }
-  record_to (Del d) (Del e) h = let w = word_to d.parent_update e.parent_update h.3 in
-      record { facts = ap (λ x. x ∷ []) w.0; nodes = (h.0, (h.1, (h.2, tt))); records = (w.1, tt) }
-  record_to _ _ h = absurd h
-
-  pub record_from : (a b : Record) → Parted (record_part a) (record_part b) → AreRecordsPaired P R a b
-  record_from (Ins i) (Ins j) h = (h.nodes.0, h.nodes.1.0, h.nodes.1.1.0)
-  record_from (Del d) (Del e) h = let f = h.facts in
-      (h.nodes.0, h.nodes.1.0, h.nodes.1.1.0, word_from d.parent_update e.parent_update (cc) h.records.0)
-  record_from _ _ h = let f = h.facts in cc
+  -- records are paired exactly if their parts are
+  pub record_parts : (a b : Record) → AreRecordsPaired P R a b ↔ Parted (record_part a) (record_part b)
+  record_parts (Ins i) (Ins j) = (
+    (λ h. record { facts = refl; nodes = (h.0, (h.1, (h.2, tt))); records = tt }),
+    (λ h. (h.nodes.0, h.nodes.1.0, h.nodes.1.1.0)),
+  )
+  record_parts (Del d) (Del e) = let word = word_parts d.parent_update e.parent_update in (
+    (λ h. let w = word.0 h.3 in
+        record { facts = ap (λ x. x ∷ []) w.0; nodes = (h.0, (h.1, (h.2, tt))); records = (w.1, tt) }),
+    (λ h. let f = h.facts in (h.nodes.0, h.nodes.1.0, h.nodes.1.1.0, word.1 ((cc), h.records.0))),
+  )
+  record_parts _ _ = (λ h. absurd h, λ h. let f = h.facts in cc)
 
   -- ---- places of a search
 
-  above_to : (a b : Option Above) → AreBoth (AreAbovesPaired P R) a b → (above_number a ≡ above_number b)
+  above_parts : (a b : Option Above) → AreBoth (AreAbovesPaired P R) a b ↔ (above_number a ≡ above_number b)
       × IsPairedOrNone P (above_node a) (above_node b) × IsPairedOrNone R (above_record a) (above_record b)
-  above_to None None h = (refl, tt, tt)
-  above_to (Some a) (Some b) h = let w = word_to a.update b.update h.1 in (ap suc w.0, h.0, w.1)
-  above_to _ _ h = absurd h
+  above_parts None None = (λ h. (refl, tt, tt), λ h. tt)
+  above_parts (Some a) (Some b) = let word = word_parts a.update b.update in (
+    (λ h. let w = word.0 h.1 in (ap suc w.0, h.0, w.1)),
+    (λ h. let e = h.0 in (h.1, word.1 (omega arith, h.2))),
+  )
+  above_parts None (Some b) = (λ h. absurd h, λ h. absurd h.1)
+  above_parts (Some a) None = (λ h. absurd h, λ h. absurd h.1)
 
-  above_from : (a b : Option Above) → above_number a ≡ above_number b → IsPairedOrNone P (above_node a) (above_node b)
-      → IsPairedOrNone R (above_record a) (above_record b) → AreBoth (AreAbovesPaired P R) a b
-  above_from None None e n r = tt
-  above_from (Some a) (Some b) e n r = (n, word_from a.update b.update (omega arith) r)
-  above_from None (Some b) e n r = absurd n
-  above_from (Some a) None e n r = absurd n
-
-  search_to : (a b : SearchLoc) → AreSearchesPaired P R a b → Parted (search_part a) (search_part b)
-  search_to (Update a p) (Update b q) h = let t = above_to a b h.0 in
-      record { facts = ap (λ x. 0 ∷ x ∷ []) t.0; nodes = (t.1, (h.1, tt)); records = (t.2, tt) }
-  search_to (Child a p u) (Child b q v) h =
-      let t = above_to a b h.0 in let w = word_to u v h.2 in let e = t.0 in let f = w.0 in
-      record { facts = cc; nodes = (t.1, (h.1, tt)); records = (t.2, (w.1, tt)) }
-  search_to (IFlag p u l) (IFlag q v m) h = let w = word_to u v h.1 in
-      record { facts = ap (λ x. 2 ∷ x ∷ []) w.0; nodes = (h.0, (h.2, tt)); records = (w.1, tt) }
-  search_to (InsOnly p l) (InsOnly q m) h = record { facts = refl; nodes = (h.0, (h.1, tt)); records = tt }
-  search_to (DFlag a p u l) (DFlag b q v m) h =
-      let t = word_to a.update b.update h.0.1 in let w = word_to u v h.2 in let e = t.0 in let f = w.0 in
-      record { facts = cc; nodes = (h.0.0, (h.1, (h.3, tt))); records = (t.1, (w.1, tt)) }
-  search_to _ _ h = absurd h
-
-  search_from : (a b : SearchLoc) → Parted (search_part a) (search_part b) → AreSearchesPaired P R a b
-  search_from (Update a p) (Update b q) h = let f = h.facts in (above_from a b (cc) h.nodes.0 h.records.0, h.nodes.1.0)
-  search_from (Child a p u) (Child b q v) h =
-      let f = h.facts in (above_from a b (cc) h.nodes.0 h.records.0, h.nodes.1.0, word_from u v (cc) h.records.1.0)
-  search_from (IFlag p u l) (IFlag q v m) h =
-      let f = h.facts in (h.nodes.0, word_from u v (cc) h.records.0, h.nodes.1.0)
-  search_from (InsOnly p l) (InsOnly q m) h = (h.nodes.0, h.nodes.1.0)
-  search_from (DFlag a p u l) (DFlag b q v m) h =
-      let f = h.facts in (
-        (h.nodes.0, word_from a.update b.update (cc) h.records.0),
-        h.nodes.1.0,
-        word_from u v (cc) h.records.1.0,
-        h.nodes.1.1.0,
+  search_parts : (a b : SearchLoc) → AreSearchesPaired P R a b ↔ Parted (search_part a) (search_part b)
+  search_parts (Update a p) (Update b q) = let above = above_parts a b in (
+    (λ h. let t = above.0 h.0 in
+        record { facts = ap (λ x. 0 ∷ x ∷ []) t.0; nodes = (t.1, (h.1, tt)); records = (t.2, tt) }),
+    (λ h. let f = h.facts in (above.1 ((cc), h.nodes.0, h.records.0), h.nodes.1.0)),
+  )
+  search_parts (Child a p u) (Child b q v) = let above = above_parts a b in let word = word_parts u v in (
+    (λ h. let t = above.0 h.0 in let w = word.0 h.2 in let e = t.0 in let f = w.0 in
+        record { facts = cc; nodes = (t.1, (h.1, tt)); records = (t.2, (w.1, tt)) }),
+    (λ h. let f = h.facts in
+        (above.1 ((cc), h.nodes.0, h.records.0), h.nodes.1.0, word.1 ((cc), h.records.1.0))),
+  )
+  search_parts (IFlag p u l) (IFlag q v m) = let word = word_parts u v in (
+    (λ h. let w = word.0 h.1 in
+        record { facts = ap (λ x. 2 ∷ x ∷ []) w.0; nodes = (h.0, (h.2, tt)); records = (w.1, tt) }),
+    (λ h. let f = h.facts in (h.nodes.0, word.1 ((cc), h.records.0), h.nodes.1.0)),
+  )
+  search_parts (InsOnly p l) (InsOnly q m) = (
+    (λ h. record { facts = refl; nodes = (h.0, (h.1, tt)); records = tt }),
+    (λ h. (h.nodes.0, h.nodes.1.0)),
+  )
+  search_parts (DFlag a p u l) (DFlag b q v m) =
+      let above = word_parts a.update b.update in let word = word_parts u v in (
+        (λ h. let t = above.0 h.0.1 in let w = word.0 h.2 in let e = t.0 in let f = w.0 in
+            record { facts = cc; nodes = (h.0.0, (h.1, (h.3, tt))); records = (t.1, (w.1, tt)) }),
+        (λ h. let f = h.facts in (
+          (h.nodes.0, above.1 ((cc), h.records.0)),
+          h.nodes.1.0,
+          word.1 ((cc), h.records.1.0),
+          h.nodes.1.1.0,
+        )),
       )
-  search_from _ _ h = let f = h.facts in cc
+  search_parts _ _ = (λ h. absurd h, λ h. let f = h.facts in cc)
 
   -- ---- places of a help
-
-  help_to : (a b : HelpLoc) → AreHelpsPaired P R a b → (help_number a ≡ help_number b) × (help_side a ≡ help_side b)
-      × IsPairedOrNone P (help_node a) (help_node b) × R (help_record a) (help_record b)
-  help_to (InsChild r) (InsChild s) h = (refl, refl, tt, h)
-  help_to (InsClean r) (InsClean s) h = (refl, refl, tt, h)
-  help_to (Mark r) (Mark s) h = (refl, refl, tt, h)
-  help_to (Right r) (Right s) h = (refl, refl, tt, h)
-  help_to (Other r c) (Other s d) h = (refl, ap side_number h.1, tt, h.0)
-  help_to (Splice r o) (Splice s q) h = (refl, refl, h.1, h.0)
-  help_to (DelClean r) (DelClean s) h = (refl, refl, tt, h)
-  help_to (Back r) (Back s) h = (refl, refl, tt, h)
-  help_to _ _ h = absurd h
 
   side_from : (c d : Side) → side_number c ≡ side_number d → c ≡ d
   side_from side.Left side.Left e = refl
   side_from side.Right side.Right e = refl
   side_from _ _ e = absurd (omega arith)
 
-  help_from : (a b : HelpLoc) → help_number a ≡ help_number b → help_side a ≡ help_side b
-      → IsPairedOrNone P (help_node a) (help_node b) → R (help_record a) (help_record b) → AreHelpsPaired P R a b
-  help_from (InsChild r) (InsChild s) e f n h = h
-  help_from (InsClean r) (InsClean s) e f n h = h
-  help_from (Mark r) (Mark s) e f n h = h
-  help_from (Right r) (Right s) e f n h = h
-  help_from (Other r c) (Other s d) e f n h = (h, side_from c d f)
-  help_from (Splice r o) (Splice s q) e f n h = (h, n)
-  help_from (DelClean r) (DelClean s) e f n h = h
-  help_from (Back r) (Back s) e f n h = h
-  help_from _ _ e f n h = absurd (omega arith)
+  help_parts : (a b : HelpLoc) → AreHelpsPaired P R a b ↔ (help_number a ≡ help_number b)
+      × (help_side a ≡ help_side b) × IsPairedOrNone P (help_node a) (help_node b) × R (help_record a) (help_record b)
+  help_parts (InsChild r) (InsChild s) = (λ h. (refl, refl, tt, h), λ h. h.3)
+  help_parts (InsClean r) (InsClean s) = (λ h. (refl, refl, tt, h), λ h. h.3)
+  help_parts (Mark r) (Mark s) = (λ h. (refl, refl, tt, h), λ h. h.3)
+  help_parts (Right r) (Right s) = (λ h. (refl, refl, tt, h), λ h. h.3)
+  help_parts (Other r c) (Other s d) = (λ h. (refl, ap side_number h.1, tt, h.0), λ h. (h.3, side_from c d h.1))
+  help_parts (Splice r o) (Splice s q) = (λ h. (refl, refl, h.1, h.0), λ h. (h.3, h.2))
+  help_parts (DelClean r) (DelClean s) = (λ h. (refl, refl, tt, h), λ h. h.3)
+  help_parts (Back r) (Back s) = (λ h. (refl, refl, tt, h), λ h. h.3)
+  help_parts _ _ = (λ h. absurd h, λ h. let e = h.0 in absurd (omega arith))
 
   base_from : (a b : Base) → base_number a ≡ base_number b → a ≡ b
   base_from Again Again e = refl
@@ -169,17 +153,6 @@ module _ (P R : ℕ → ℕ → Type 0) where
 
   -- ---- what threads hold
 
-  pub place_to : (a b : EllenLoc) → ArePlacesPaired P R a b → Parted (place_part a) (place_part b)
-  place_to (Search a) (Search b) h = search_to a b h
-  place_to (Help a y) (Help b z) h =
-      let t = help_to a b h.0 in let e = t.0 in let f = t.1 in let g = h.1.1 in
-      record {
-        facts = cc;
-        nodes = (t.2, tt);
-        records = (t.3, zip_map Some R (IsPairedOrNone R) (λ r s h. h) y.stack z.stack h.1.0);
-      }
-  place_to _ _ h = absurd h
-
   search_apart : (a : SearchLoc) (x : ℕ) (facts : List ℕ) → (search_part a).facts ≡ 5 ∷ x ∷ facts → ⊥
   search_apart (Update a p) x facts e = cc
   search_apart (Child a p u) x facts e = cc
@@ -187,14 +160,23 @@ module _ (P R : ℕ → ℕ → Type 0) where
   search_apart (InsOnly p l) x facts e = cc
   search_apart (DFlag a p u l) x facts e = cc
 
-  pub place_from : (a b : EllenLoc) → Parted (place_part a) (place_part b) → ArePlacesPaired P R a b
-  place_from (Search a) (Search b) h = search_from a b h
-  place_from (Help a y) (Help b z) h = let f = h.facts in (
-    help_from a b (cc) (cc) h.nodes.0 h.records.0,
-    (zip_unmap Some R (IsPairedOrNone R) (λ r s h. h) y.stack z.stack h.records.1, base_from y.base z.base (cc)),
+  -- places are paired exactly if their parts are
+  pub place_parts : (a b : EllenLoc) → ArePlacesPaired P R a b ↔ Parted (place_part a) (place_part b)
+  place_parts (Search a) (Search b) = search_parts a b
+  place_parts (Help a y) (Help b z) = let help = help_parts a b in (
+    (λ h. let t = help.0 h.0 in let e = t.0 in let f = t.1 in let g = h.1.1 in
+        record {
+          facts = cc;
+          nodes = (t.2, tt);
+          records = (t.3, zip_map Some R (IsPairedOrNone R) (λ r s h. h) y.stack z.stack h.1.0);
+        }),
+    (λ h. let f = h.facts in (
+      help.1 ((cc), (cc), h.nodes.0, h.records.0),
+      (zip_unmap Some R (IsPairedOrNone R) (λ r s h. h) y.stack z.stack h.records.1, base_from y.base z.base (cc)),
+    )),
   )
-  place_from (Search a) (Help b z) h = search_apart a _ _ h.facts
-  place_from (Help a y) (Search b) h = search_apart b _ _ (sym h.facts)
+  place_parts (Search a) (Help b z) = (λ h. absurd h, λ h. absurd (search_apart a _ _ h.facts))
+  place_parts (Help a y) (Search b) = (λ h. absurd h, λ h. absurd (search_apart b _ _ (sym h.facts)))
 
   place_is_some : (a : EllenLoc) → (place_part a).facts ≡ [] → ⊥
   place_is_some (Search (Update a p)) e = cc
@@ -204,16 +186,13 @@ module _ (P R : ℕ → ℕ → Type 0) where
   place_is_some (Search (DFlag a p u l)) e = cc
   place_is_some (Help a y) e = cc
 
-  held_to : (a b : Option EllenLoc) → AreHeldPaired (ArePlacesPaired P R) a b → Parted (held_part a) (held_part b)
-  held_to None None h = record { facts = refl; nodes = tt; records = tt }
-  held_to (Some a) (Some b) h = place_to a b h
-  held_to _ _ h = absurd h
-
-  pub held_from : (a b : Option EllenLoc) → Parted (held_part a) (held_part b) → AreHeldPaired (ArePlacesPaired P R) a b
-  held_from None None h = tt
-  held_from (Some a) (Some b) h = place_from a b h
-  held_from None (Some b) h = place_is_some b (sym h.facts)
-  held_from (Some a) None h = place_is_some a h.facts
+  -- what two threads hold is paired exactly if the parts are
+  pub held_parts : (a b : Option EllenLoc)
+      → AreHeldPaired (ArePlacesPaired P R) a b ↔ Parted (held_part a) (held_part b)
+  held_parts None None = (λ h. record { facts = refl; nodes = tt; records = tt }, λ h. tt)
+  held_parts (Some a) (Some b) = place_parts a b
+  held_parts None (Some b) = (λ h. absurd h, λ h. absurd (place_is_some b (sym h.facts)))
+  held_parts (Some a) None = (λ h. absurd h, λ h. absurd (place_is_some a h.facts))
 
 -- ---- memories
 
@@ -228,12 +207,13 @@ module _ (P R : ℕ → ℕ → Type 0) (memory other : EllenMem) (held others :
     records_in_range = λ x y p. parts_within record_part memory.records other.records x y (h.records_in_range x y p);
     nodes_paired =
         λ x y p. parts_at node_part memory.nodes other.nodes x y P R (AreFoundPaired P R) (h.nodes_in_range x y p)
-        (node_to P R) (h.nodes x y p);
+        (λ a b. (node_parts P R a b).0) (h.nodes x y p);
     records_paired =
         λ x y p. parts_at record_part memory.records other.records x y P R (AreBoth (AreRecordsPaired P R))
-        (h.records_in_range x y p) (record_to P R) (h.records x y p);
+        (h.records_in_range x y p) (λ a b. (record_parts P R a b).0) (h.records x y p);
     held_paired =
-        zip_map held_part (AreHeldPaired (ArePlacesPaired P R)) (ArePartsPaired P R) (held_to P R) held others k;
+        zip_map held_part (AreHeldPaired (ArePlacesPaired P R)) (ArePartsPaired P R) (λ a b. (held_parts P R a b).0)
+        held others k;
   }
 
   memories_from : IsPartsPairing P R 1 (ellen_parts memory held) (ellen_parts other others)
@@ -251,10 +231,10 @@ module _ (P R : ℕ → ℕ → Type 0) (memory other : EllenMem) (held others :
         records_in_range = records_below;
         nodes =
             λ x y p. values_at node_part memory.nodes other.nodes x y P R (AreFoundPaired P R) (nodes_below x y p)
-            (node_from P R) (h.nodes_paired x y p);
+            (λ a b. (node_parts P R a b).1) (h.nodes_paired x y p);
         records =
             λ x y p. values_at record_part memory.records other.records x y P R (AreBoth (AreRecordsPaired P R))
-            (records_below x y p) (record_from P R) (h.records_paired x y p);
+            (records_below x y p) (λ a b. (record_parts P R a b).1) (h.records_paired x y p);
       }
 
 -- some pairing pairs the parts exactly if one pairs the memories and what the threads hold
@@ -265,8 +245,8 @@ parts_alike memory other held others = (
   (λ h. let P = IsAmong h.0 in let R = IsAmong h.1 in (
     record { nodes = h.0; records = h.1 },
     memories_from P R memory other held others h.2,
-    zip_unmap held_part (AreHeldPaired (ArePlacesPaired P R)) (ArePartsPaired P R) (held_from P R) held others
-        h.2.held_paired,
+    zip_unmap held_part (AreHeldPaired (ArePlacesPaired P R)) (ArePartsPaired P R) (λ a b. (held_parts P R a b).1)
+        held others h.2.held_paired,
   )),
   (λ h. (
     h.0.nodes,

@@ -1,11 +1,10 @@
 -- The numbers of a memory and of places are in range exactly if those of their parts are, and stay so where there are
 -- more nodes and records.
-use Rattle.std.specs.Prelude.{◌≡◌, ℕ, ◌<◌, ◌≤◌, List, [], ◌∷◌, map, length, Option, Some, None, IfSome, All}
+use Rattle.std.specs.Prelude.{ℕ, ◌<◌, ◌≤◌, ◌↔◌, List, map, length, Option, Some, None, IfSome, All}
 use Rattle.std.specs.List.{AllByRecursion}
 use Rattle.std.proofs.Common.{arith}
 use Rattle.std.proofs.lemmas.List.{length-map}
-use Rattle.std.proofs.lemmas.List.Elements.{All-cons, All-head, All-tail, All-map, All-weaker}
-use Rattle.std.proofs.lemmas.List.Elements.{All-from_recursion, recursion_from_All}
+use Rattle.std.proofs.lemmas.List.Elements.{All-map, All-weaker, All-from_recursion, recursion_from_All}
 use Rattle.tree_machine.specs.Parts.{Part, IsPartBelow, ArePartsInRange}
 use Rattle.tree_machine.proofs.ValueParts.{from_map, all_below, all_in}
 use Rattle.ellen.specs.declared.memory.Node.{Node}
@@ -19,149 +18,105 @@ use Rattle.ellen.specs.declared.place.SearchLoc.TheVariants.{Update, Child, IFla
 use Rattle.ellen.specs.declared.place.EllenLoc.{EllenLoc}
 use Rattle.ellen.specs.declared.place.EllenLoc.TheVariants.{Search, Help}
 use Rattle.ellen.specs.Range.{IsNodeIn, IsRecordIn, IsAboveIn, IsSearchIn, IsPlaceIn, IsInRange, IsPlaceInRange}
-use Rattle.ellen.specs.Parts.{word_record, node_part, record_part, above_node, above_record, search_part, help_record}
-use Rattle.ellen.specs.Parts.{help_node, place_part, held_part, ellen_parts}
+use Rattle.ellen.specs.Parts.{node_part, record_part, above_node, above_record, search_part, place_part, held_part}
+use Rattle.ellen.specs.Parts.{ellen_parts}
 
 abbrev Below : ℕ → Option ℕ → Type 0
 Below n x = IfSome x (λ y. y < n)
 
--- ---- from the memory and the places to their parts
+-- ---- the numbers of a value are in range exactly if those of its part are
 
 module _ (n m : ℕ) where
-  part_below : (facts : List ℕ) (nodes records : List (Option ℕ)) → AllByRecursion (Below n) nodes
-      → AllByRecursion (Below m) records → IsPartBelow n m (record { facts = facts; nodes = nodes; records = records })
-  part_below facts nodes records h k =
-      record { nodes = All-from_recursion (Below n) nodes h; records = All-from_recursion (Below m) records k }
+  -- the numbers that a part names, one by one
+  abbrev AreBelow : Part → Type 0
+  AreBelow p = AllByRecursion (Below n) p.nodes × AllByRecursion (Below m) p.records
 
-  node_below : (node : Node) → IsNodeIn n m node → IsPartBelow n m (node_part node)
-  node_below (Leaf k) h = part_below _ [] [] tt tt
-  node_below (Internal k u l r) h =
-      part_below _ (Some l ∷ Some r ∷ []) (word_record u ∷ []) (h.1, (h.2, tt)) (h.0, tt)
+  exactly : {T : Type 0} (p : Part) → (T → AreBelow p) → (AreBelow p → T) → T ↔ IsPartBelow n m p
+  exactly p to back = (
+    (λ h. record {
+      nodes = All-from_recursion (Below n) p.nodes (to h).0;
+      records = All-from_recursion (Below m) p.records (to h).1;
+    }),
+    (λ h. back (recursion_from_All (Below n) p.nodes h.nodes, recursion_from_All (Below m) p.records h.records)),
+  )
 
-  record_below : (each : Record) → IsRecordIn n m each → IsPartBelow n m (record_part each)
-  record_below (Ins i) h = part_below _ (Some i.parent ∷ Some i.leaf ∷ Some i.new ∷ []) [] (h.0, (h.1, (h.2, tt))) tt
-  record_below (Del d) h =
-      part_below _ (Some d.grandparent ∷ Some d.parent ∷ Some d.leaf ∷ []) (word_record d.parent_update ∷ [])
-      (h.0, (h.1, (h.2, tt))) (h.3, tt)
+  node_exactly : (node : Node) → IsNodeIn n m node ↔ IsPartBelow n m (node_part node)
+  node_exactly (Leaf k) = exactly _ (λ h. (tt, tt)) (λ h. tt)
+  node_exactly (Internal k u l r) = exactly _ (λ h. ((h.1, (h.2, tt)), (h.0, tt))) (λ h. (h.1.0, h.0.0, h.0.1.0))
 
-  above_below : (a : Option Above) → IfSome a (IsAboveIn n m) → Below n (above_node a) × Below m (above_record a)
-  above_below None h = (tt, tt)
-  above_below (Some a) h = (h.0, h.1)
+  record_exactly : (each : Record) → IsRecordIn n m each ↔ IsPartBelow n m (record_part each)
+  record_exactly (Ins i) = exactly _ (λ h. ((h.0, (h.1, (h.2, tt))), tt)) (λ h. (h.0.0, h.0.1.0, h.0.1.1.0))
+  record_exactly (Del d) =
+      exactly _ (λ h. ((h.0, (h.1, (h.2, tt))), (h.3, tt))) (λ h. (h.0.0, h.0.1.0, h.0.1.1.0, h.1.0))
 
-  search_below : (at : SearchLoc) → IsSearchIn n m at → IsPartBelow n m (search_part at)
-  search_below (Update a p) h =
-      let t = above_below a h.0 in
-      part_below _ (above_node a ∷ Some p ∷ []) (above_record a ∷ []) (t.0, (h.1, tt)) (t.1, tt)
-  search_below (Child a p u) h =
-      let t = above_below a h.0 in
-      part_below _ (above_node a ∷ Some p ∷ []) (above_record a ∷ word_record u ∷ []) (t.0, (h.1, tt))
-      (t.1, (h.2, tt))
-  search_below (IFlag p u l) h =
-      part_below _ (Some p ∷ Some l ∷ []) (word_record u ∷ []) (h.0, (h.2, tt)) (h.1, tt)
-  search_below (InsOnly p l) h = part_below _ (Some p ∷ Some l ∷ []) [] (h.0, (h.1, tt)) tt
-  search_below (DFlag a p u l) h =
-      part_below _ (Some a.node ∷ Some p ∷ Some l ∷ []) (word_record a.update ∷ word_record u ∷ [])
-      (h.0.0, (h.1, (h.3, tt))) (h.0.1, (h.2, tt))
+  above_exactly : (a : Option Above) → IfSome a (IsAboveIn n m) ↔ Below n (above_node a) × Below m (above_record a)
+  above_exactly None = (λ h. (tt, tt), λ h. tt)
+  above_exactly (Some a) = (λ h. h, λ h. h)
 
-  place_below : (place : EllenLoc) → IsPlaceIn n m place → IsPartBelow n m (place_part place)
-  place_below (Search at) h = search_below at h
-  place_below (Help at resume) h =
-      record {
-        nodes = All-from_recursion (Below n) (help_node at ∷ []) (h.0.1, tt);
-        records =
-            All-cons (Below m) (Some (help_record at)) (map Some resume.stack) h.0.0
-            (All-map (Below m) Some resume.stack h.1);
-      }
+  search_exactly : (at : SearchLoc) → IsSearchIn n m at ↔ IsPartBelow n m (search_part at)
+  search_exactly (Update a p) = let above = above_exactly a in
+      exactly _ (λ h. let t = above.0 h.0 in ((t.0, (h.1, tt)), (t.1, tt))) (λ h. (above.1 (h.0.0, h.1.0), h.0.1.0))
+  search_exactly (Child a p u) = let above = above_exactly a in
+      exactly _ (λ h. let t = above.0 h.0 in ((t.0, (h.1, tt)), (t.1, (h.2, tt))))
+      (λ h. (above.1 (h.0.0, h.1.0), h.0.1.0, h.1.1.0))
+  search_exactly (IFlag p u l) = exactly _ (λ h. ((h.0, (h.2, tt)), (h.1, tt))) (λ h. (h.0.0, h.1.0, h.0.1.0))
+  search_exactly (InsOnly p l) = exactly _ (λ h. ((h.0, (h.1, tt)), tt)) (λ h. (h.0.0, h.0.1.0))
+  search_exactly (DFlag a p u l) =
+      exactly _ (λ h. ((h.0.0, (h.1, (h.3, tt))), (h.0.1, (h.2, tt))))
+      (λ h. ((h.0.0, h.1.0), h.0.1.0, h.1.1.0, h.0.1.1.0))
 
-  held_below : (held : Option EllenLoc) → IfSome held (IsPlaceIn n m) → IsPartBelow n m (held_part held)
-  held_below None h = part_below _ [] [] tt tt
-  held_below (Some place) h = place_below place h
+  place_exactly : (place : EllenLoc) → IsPlaceIn n m place ↔ IsPartBelow n m (place_part place)
+  place_exactly (Search at) = search_exactly at
+  place_exactly (Help at resume) = let stack = map Some resume.stack in
+      exactly _
+      (λ h. ((h.0.1, tt), (h.0.0, recursion_from_All (Below m) stack (All-map (Below m) Some resume.stack h.1))))
+      (λ h. (
+        (h.1.0, h.0.0),
+        from_map Some (λ r. r < m) (Below m) (λ r k. k) resume.stack (All-from_recursion (Below m) stack h.1.1),
+      ))
 
+  held_exactly : (held : Option EllenLoc) → IfSome held (IsPlaceIn n m) ↔ IsPartBelow n m (held_part held)
+  held_exactly None = exactly _ (λ h. (tt, tt)) (λ h. tt)
+  held_exactly (Some place) = place_exactly place
+
+-- ---- a memory and the places held
+
+-- the parts of a memory and of places in range are in range
 pub parts_in_range : (memory : EllenMem) (held : List (Option EllenLoc)) → IsInRange memory
     → All (λ place. IfSome place (IsPlaceInRange memory)) held → ArePartsInRange 1 (ellen_parts memory held)
 parts_in_range memory held h at =
     let n = length memory.nodes in
     let m = length memory.records in
-    let nodes : length (map node_part memory.nodes) ≡ n = length-map memory.nodes node_part in
-    let records : length (map record_part memory.records) ≡ m = length-map memory.records record_part in
+    let same = length-map memory.nodes node_part in
+    let alike = length-map memory.records record_part in
     record {
       fixed_in_range = let root = h.root in omega arith;
-      nodes = all_below node_part (IsNodeIn n m) n m _ _ nodes records (node_below n m) memory.nodes h.nodes;
+      nodes = all_below node_part (IsNodeIn n m) n m _ _ same alike (λ a. (node_exactly n m a).0) memory.nodes h.nodes;
       records =
-          all_below record_part (IsRecordIn n m) n m _ _ nodes records (record_below n m) memory.records h.records;
-      held = all_below held_part (λ place. IfSome place (IsPlaceIn n m)) n m _ _ nodes records (held_below n m) held at;
+          all_below record_part (IsRecordIn n m) n m _ _ same alike (λ a. (record_exactly n m a).0) memory.records
+          h.records;
+      held =
+          all_below held_part (λ place. IfSome place (IsPlaceIn n m)) n m _ _ same alike
+          (λ a. (held_exactly n m a).0) held at;
     }
 
--- ---- and back
-
-module _ (n m : ℕ) where
-  node_in : (node : Node) → IsPartBelow n m (node_part node) → IsNodeIn n m node
-  node_in (Leaf k) h = tt
-  node_in (Internal k u l r) h =
-      let nodes = recursion_from_All (Below n) (Some l ∷ Some r ∷ []) h.nodes in
-      let records = recursion_from_All (Below m) (word_record u ∷ []) h.records in
-      (records.0, nodes.0, nodes.1.0)
-
-  record_in : (each : Record) → IsPartBelow n m (record_part each) → IsRecordIn n m each
-  record_in (Ins i) h =
-      let nodes = recursion_from_All (Below n) (Some i.parent ∷ Some i.leaf ∷ Some i.new ∷ []) h.nodes in
-      (nodes.0, nodes.1.0, nodes.1.1.0)
-  record_in (Del d) h =
-      let nodes = recursion_from_All (Below n) (Some d.grandparent ∷ Some d.parent ∷ Some d.leaf ∷ []) h.nodes in
-      let records = recursion_from_All (Below m) (word_record d.parent_update ∷ []) h.records in
-      (nodes.0, nodes.1.0, nodes.1.1.0, records.0)
-
-  above_in : (a : Option Above) → Below n (above_node a) → Below m (above_record a) → IfSome a (IsAboveIn n m)
-  above_in None h k = tt
-  above_in (Some a) h k = (h, k)
-
-  search_in : (at : SearchLoc) → IsPartBelow n m (search_part at) → IsSearchIn n m at
-  search_in (Update a p) h =
-      let nodes = recursion_from_All (Below n) (above_node a ∷ Some p ∷ []) h.nodes in
-      let records = recursion_from_All (Below m) (above_record a ∷ []) h.records in
-      (above_in a nodes.0 records.0, nodes.1.0)
-  search_in (Child a p u) h =
-      let nodes = recursion_from_All (Below n) (above_node a ∷ Some p ∷ []) h.nodes in
-      let records = recursion_from_All (Below m) (above_record a ∷ word_record u ∷ []) h.records in
-      (above_in a nodes.0 records.0, nodes.1.0, records.1.0)
-  search_in (IFlag p u l) h =
-      let nodes = recursion_from_All (Below n) (Some p ∷ Some l ∷ []) h.nodes in
-      let records = recursion_from_All (Below m) (word_record u ∷ []) h.records in
-      (nodes.0, records.0, nodes.1.0)
-  search_in (InsOnly p l) h =
-      let nodes = recursion_from_All (Below n) (Some p ∷ Some l ∷ []) h.nodes in
-      (nodes.0, nodes.1.0)
-  search_in (DFlag a p u l) h =
-      let nodes = recursion_from_All (Below n) (Some a.node ∷ Some p ∷ Some l ∷ []) h.nodes in
-      let records = recursion_from_All (Below m) (word_record a.update ∷ word_record u ∷ []) h.records in
-      ((nodes.0, records.0), nodes.1.0, records.1.0, nodes.1.1.0)
-
-  place_in : (place : EllenLoc) → IsPartBelow n m (place_part place) → IsPlaceIn n m place
-  place_in (Search at) h = search_in at h
-  place_in (Help at resume) h =
-      let own = Some (help_record at) in
-      let stack = map Some resume.stack in (
-        (All-head (Below m) own stack h.records, All-head (Below n) (help_node at) [] h.nodes),
-        from_map Some (λ r. r < m) (Below m) (λ r k. k) resume.stack (All-tail (Below m) own stack h.records),
-      )
-
-  held_in : (held : Option EllenLoc) → IsPartBelow n m (held_part held) → IfSome held (IsPlaceIn n m)
-  held_in None h = tt
-  held_in (Some place) h = place_in place h
-
+-- and only those
 pub values_in_range : (memory : EllenMem) (held : List (Option EllenLoc)) → ArePartsInRange 1 (ellen_parts memory held)
     → IsInRange memory × All (λ place. IfSome place (IsPlaceInRange memory)) held
 values_in_range memory held h =
     let n = length memory.nodes in
     let m = length memory.records in
-    let nodes : length (map node_part memory.nodes) ≡ n = length-map memory.nodes node_part in
-    let records : length (map record_part memory.records) ≡ m = length-map memory.records record_part in (
+    let same = length-map memory.nodes node_part in
+    let alike = length-map memory.records record_part in (
       record {
         root = let root = h.fixed_in_range in omega arith;
-        nodes = all_in node_part (IsNodeIn n m) n m _ _ nodes records (node_in n m) memory.nodes h.nodes;
-        records = all_in record_part (IsRecordIn n m) n m _ _ nodes records (record_in n m) memory.records h.records;
+        nodes = all_in node_part (IsNodeIn n m) n m _ _ same alike (λ a. (node_exactly n m a).1) memory.nodes h.nodes;
+        records =
+            all_in record_part (IsRecordIn n m) n m _ _ same alike (λ a. (record_exactly n m a).1) memory.records
+            h.records;
       },
-      all_in held_part (λ place. IfSome place (IsPlaceIn n m)) n m _ _ nodes records (held_in n m) held h.held,
+      all_in held_part (λ place. IfSome place (IsPlaceIn n m)) n m _ _ same alike (λ a. (held_exactly n m a).1) held
+          h.held,
     )
 
 -- ---- what is in range stays so where there are more nodes and records
@@ -178,11 +133,14 @@ module _ (n m nodes records : ℕ) (len : n ≤ nodes) (lem : m ≤ records) whe
         records = All-weaker (Below m) (Below records) (below_more m records lem) p.records h.records;
       }
 
+  -- a node stays in range
   pub node_more : (node : Node) → IsNodeIn n m node → IsNodeIn nodes records node
-  node_more node h = node_in nodes records node (part_more (node_part node) (node_below n m node h))
+  node_more node h = (node_exactly nodes records node).1 (part_more _ ((node_exactly n m node).0 h))
 
+  -- a record stays in range
   pub record_more : (each : Record) → IsRecordIn n m each → IsRecordIn nodes records each
-  record_more each h = record_in nodes records each (part_more (record_part each) (record_below n m each h))
+  record_more each h = (record_exactly nodes records each).1 (part_more _ ((record_exactly n m each).0 h))
 
+  -- a place stays in range
   pub place_more : (place : EllenLoc) → IsPlaceIn n m place → IsPlaceIn nodes records place
-  place_more place h = place_in nodes records place (part_more (place_part place) (place_below n m place h))
+  place_more place h = (place_exactly nodes records place).1 (part_more _ ((place_exactly n m place).0 h))

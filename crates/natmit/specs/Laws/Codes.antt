@@ -21,7 +21,7 @@ use Rattle.natmit.specs.declared.place.NatMitLoc.TheVariants.{Swing}
 use Rattle.natmit.specs.Pairs.{AreWordsPaired, AreNodesPaired, AreModesPaired, ArePathsPaired, ArePlacesPaired}
 use Rattle.natmit.specs.Parts.{node_part, held_part, natmit_parts, natmit_code}
 use Rattle.natmit.specs.Parts.{natmit_front_code, natmit_behind_code}
-use Rattle.natmit.specs.Laws.Parts.{nodes_of_parts, held_of_parts}
+use Rattle.natmit.specs.Laws.Parts.{node_parts, held_parts}
 
 -- ---- what equality pairs is equal
 
@@ -68,10 +68,10 @@ parts_tell : (memory other : NatMitMem) (held others : List (Option NatMitLoc))
     → natmit_parts memory held ≡ natmit_parts other others → (memory ≡ other) × (held ≡ others)
 parts_tell memory other held others e =
     let nodes : memory.nodes ≡ other.nodes =
-    values_equal node_part (λ a b h. nodes_equal a b (nodes_of_parts Same Same a b h)) memory.nodes other.nodes
+    values_equal node_part (λ a b h. nodes_equal a b ((node_parts Same Same a b).1 h)) memory.nodes other.nodes
     (λ i. (e i).nodes) in (
       (λ i. record { nodes = nodes i }),
-      values_equal held_part (λ a b h. held_equal a b (held_of_parts Same Same a b h)) held others (λ i. (e i).held),
+      values_equal held_part (λ a b h. held_equal a b ((held_parts Same Same a b).1 h)) held others (λ i. (e i).held),
     )
 
 -- and so do their bytes

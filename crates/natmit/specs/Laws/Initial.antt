@@ -1,8 +1,8 @@
 -- The initial memory has its numbers in range, and keeps search order.
-use Rattle.std.specs.Prelude.{◌≡◌, ◌≢◌, ℕ, zero, suc, ◌+◌, ◌<◌, ◌≤◌, Bool, true, false, nat_lt, if◌then◌else◌, List, []}
+use Rattle.std.specs.Prelude.{◌≡◌, ◌≢◌, ℕ, zero, suc, ◌<◌, ◌≤◌, Bool, true, false, nat_lt, if◌then◌else◌, List, []}
 use Rattle.std.specs.Prelude.{◌∷◌, length, fold, refl, Option, Some, None, unwrap_or, slice_get}
 use Rattle.std.specs.Option.{option_map}
-use Rattle.std.proofs.Common.{arith, sym, ◌∙◌, ap, subst, ◌⊎◌, inl}
+use Rattle.std.proofs.Common.{arith, sym, ap, subst, ◌⊎◌, inl, length-append}
 use Rattle.std.proofs.lemmas.List.{length-set}
 use Rattle.std.proofs.lemmas.List.Elements.{All-from_recursion, All-weaker}
 use Rattle.std.proofs.lemmas.Option.{same_Some}
@@ -22,7 +22,7 @@ use Rattle.natmit.specs.Memory.{plain, key_in, shape_in, shapes, with_word, node
 use Rattle.natmit.specs.Memory.{with_internal, new_internal}
 use Rattle.natmit.specs.Initial.{empty_tree, put_in, initial_memory}
 use Rattle.natmit.specs.Range.{IsNodeIn, IsInRange}
-use Rattle.natmit.specs.Laws.Range.{node_in, set_word_in, two_more, with_internal_in}
+use Rattle.natmit.specs.Laws.Range.{either, node_in, set_word_in, two_more, with_internal_in}
 
 -- ---- where a search ends
 
@@ -61,15 +61,15 @@ module _ (k j n l : ℕ) where
   over_is true = refl
   over_is false = refl
 
-  no_leaf : (b : Bool) (i : ℕ)
-      → shape_in (if b then Internal j (plain n) (plain l) else Internal k (plain l) (plain n)) ≡ shape.Leaf i → ⊥
-  no_leaf true i e = cc
-  no_leaf false i e = cc
+  no_leaf : (i : ℕ) → shape_in (internal_over k j n l) ≡ shape.Leaf i → ⊥
+  no_leaf i =
+      either (λ node. shape_in node ≡ shape.Leaf i → ⊥) (nat_lt k j) (Internal j (plain n) (plain l))
+      (Internal k (plain l) (plain n)) (λ e. cc) (λ e. cc)
 
   new_leaves : (i x : ℕ) → option_map shape_in (slice_get (Leaf k ∷ internal_over k j n l ∷ []) x) ≡ Some (shape.Leaf i)
       → (i ≡ k) ⊎ (i ≡ j)
   new_leaves i zero e = inl cc
-  new_leaves i (suc zero) e = absurd (no_leaf (nat_lt k j) i (same_Some _ _ e))
+  new_leaves i (suc zero) e = absurd (no_leaf i (same_Some _ _ e))
   new_leaves i (suc (suc x)) e = cc
 
 puts : (memory : NatMitMem) (k : ℕ) → IsPutIn (shapes memory) (shapes (put_in memory k)) k
@@ -87,16 +87,8 @@ puts memory k =
       leaves = new_leaves k j n end.leaf;
     })
 
-pub put_in_count : (memory : NatMitMem) (k : ℕ) → length (put_in memory k).nodes ≡ length memory.nodes + 2
-put_in_count memory k =
-    let end = end_of (shapes memory) k (length memory.nodes) 0 0 in
-    length-set (with_internal memory k end.leaf).nodes end.parent
-    (with_word (side_at k memory end.parent) (plain (new_internal memory))
-    (node_at (with_internal memory k end.leaf) end.parent))
-    ∙ two_more memory k end.leaf
-
 grows : (memory : NatMitMem) (k : ℕ) → length memory.nodes < length (put_in memory k).nodes
-grows memory k = let more = put_in_count memory k in omega arith
+grows memory k = rw (length-set, length-append) (omega arith)
 
 -- the leaves of the empty tree
 sentinels : (x j : ℕ) → shapes empty_tree x ≡ Some (shape.Leaf j) → 100 ≤ j

@@ -1,5 +1,5 @@
 -- What is read of paired memories is paired, and each kind of access keeps a pairing.
-use Rattle.std.specs.Prelude.{◌≡◌, ℕ, true, not, ◌&&◌, if◌then◌else◌, nat_eq, refl, Option, Some, None, unwrap_or}
+use Rattle.std.specs.Prelude.{◌≡◌, ℕ, not, ◌&&◌, nat_eq, refl, Option, Some, None, unwrap_or}
 use Rattle.std.proofs.Common.{ap, subst}
 use Rattle.tree_machine.specs.declared.search_order.Side.{Side}
 use Rattle.tree_machine.specs.declared.search_order.Side.TheVariants.{Left, Right}
@@ -11,7 +11,7 @@ use Rattle.natmit.specs.declared.memory.Word.{Word}
 use Rattle.natmit.specs.declared.memory.Node.{Node}
 use Rattle.natmit.specs.declared.memory.Node.TheVariants.{Leaf, Internal}
 use Rattle.natmit.specs.declared.memory.NatMitMem.{NatMitMem}
-use Rattle.natmit.specs.Memory.{is_plain, key_in, word_on, with_word, node_at, side_at, set_node, set_word}
+use Rattle.natmit.specs.Memory.{is_plain, key_in, word_on, with_word, node_at, side_at, set_word}
 use Rattle.natmit.specs.Pairs.{AreWordsPaired, AreNodesPaired, AreMemoriesPaired, ArePlacesPaired, natmit_pairs}
 use Rattle.tree_machine.specs.declared.machine.Outcome.{Outcome}
 use Rattle.tree_machine.specs.declared.machine.Outcome.TheVariants.{Astray}
@@ -61,27 +61,26 @@ module _ (P : ℕ → ℕ → Type 0) (memory twin : NatMitMem) (h : AreMemories
   pub side_paired : (k x y : ℕ) → P x y → side_at k memory x ≡ side_at k twin y
   side_paired k x y p = ap (side_of k) (key_paired P (node_at memory x) (node_at twin y) (h.nodes_paired x y p))
 
-  pub reads_paired : (d : Side) (x y : ℕ) → P x y
-      → AreReadsPaired P (word_on d (node_at memory x)) (word_on d (node_at twin y))
-  reads_paired d x y p = word_paired P d (node_at memory x) (node_at twin y) (h.nodes_paired x y p)
+  -- the words of paired nodes on one side
+  pub reads_paired : (x y : ℕ) (d e : Side) → P x y → d ≡ e
+      → AreReadsPaired P (word_on d (node_at memory x)) (word_on e (node_at twin y))
+  reads_paired x y d e p same = rw (← same) (word_paired P d _ _ (h.nodes_paired x y p))
 
-  -- paired nodes are exchanged for paired nodes
-  set_paired : (x y : ℕ) (a b : Node) → P x y → AreNodesPaired P a b
-      → AreMemoriesPaired P (set_node memory x a) (set_node twin y b)
-  set_paired x y a b p g = record {
-    one_to_one = h.one_to_one;
-    root_paired = h.root_paired;
-    begin_paired = h.begin_paired;
-    in_range = within_set P memory.nodes twin.nodes x y a b h.in_range;
-    nodes_paired =
-        paired_set P memory.nodes twin.nodes x y a b (AreFoundPaired P) h.one_to_one h.in_range p g h.nodes_paired;
-  }
-
-  pub set_word_paired : (x y : ℕ) (d : Side) (v w : Word) → P x y → AreWordsPaired P v w
-      → AreMemoriesPaired P (set_word memory x d v) (set_word twin y d w)
-  set_word_paired x y d v w p g =
-      set_paired x y (with_word d v (node_at memory x)) (with_word d w (node_at twin y)) p
-      (with_word_paired P d v w (node_at memory x) (node_at twin y) (h.nodes_paired x y p) g)
+  -- paired nodes get paired words
+  pub set_word_paired : (x y : ℕ) (d e : Side) (v w : Word) → P x y → d ≡ e → AreWordsPaired P v w
+      → AreMemoriesPaired P (set_word memory x d v) (set_word twin y e w)
+  set_word_paired x y d e v w p same g =
+      record {
+        one_to_one = h.one_to_one;
+        root_paired = h.root_paired;
+        begin_paired = h.begin_paired;
+        in_range = within_set P memory.nodes twin.nodes x y _ _ h.in_range;
+        nodes_paired =
+            paired_set P memory.nodes twin.nodes x y (with_word d v (node_at memory x)) (with_word e w (node_at twin y))
+            (AreFoundPaired P) h.one_to_one h.in_range p
+            (subst (λ z. AreNodesPaired P (with_word d v (node_at memory x)) (with_word z w (node_at twin y))) same
+            (with_word_paired P d v w _ _ (h.nodes_paired x y p) g)) h.nodes_paired;
+      }
 
 -- ---- kinds of access
 
@@ -92,6 +91,7 @@ module _ (p : Pairing) (memory twin : NatMitMem) (h : AreMemoriesPaired (IsAmong
   abbrev pub P : ℕ → ℕ → Type 0
   P = IsAmong p.nodes
 
+  -- accesses keep a pairing
   abbrev pub AreAccessesPaired : After → After → Type 0
   AreAccessesPaired left right = AreStepsPaired natmit_pairs p left right
 
@@ -108,20 +108,13 @@ module _ (p : Pairing) (memory twin : NatMitMem) (h : AreMemoriesPaired (IsAmong
   found_paired (Some v) (Some w) f g r both = both v w r
   found_paired _ _ f g r both = absurd r
 
-  -- the words of paired nodes on one side
-  at_paired : (x y : ℕ) (d e : Side) → P x y → d ≡ e
-      → AreReadsPaired P (word_on d (node_at memory x)) (word_on e (node_at twin y))
-  at_paired x y d e at same =
-      subst (λ z. AreReadsPaired P (word_on d (node_at memory x)) (word_on z (node_at twin y))) same
-      (reads_paired P memory twin h d x y at)
-
+  -- a read
   pub read_keeps : (x y : ℕ) (d e : Side) (f g : Word → Outcome NatMitLoc) → P x y → d ≡ e
       → ((v w : Word) → AreWordsPaired P v w → AreGoingAlike P (f v) (g w))
       → AreAccessesPaired (after_read memory x d f) (after_read twin y e g)
   read_keeps x y d e f g at same both =
-      found_paired (word_on d (node_at memory x)) (word_on e (node_at twin y)) (λ w. (memory, f w)) (λ w. (twin, g w))
-      (at_paired x y d e at same)
-      (λ v w r. stays (f v) (g w) (both v w r))
+      found_paired (word_on d (node_at memory x)) (word_on e (node_at twin y)) _ _
+      (reads_paired P memory twin h x y d e at same) (λ v w r. stays (f v) (g w) (both v w r))
 
   -- what is written may name new nodes, which further pairs then pair
   written : (q : Pairing) → Extends p q → (grown grown_twin : NatMitMem)
@@ -132,12 +125,11 @@ module _ (p : Pairing) (memory twin : NatMitMem) (h : AreMemoriesPaired (IsAmong
   written q more grown grown_twin k x y d e v w o r at same words goes = record {
     then = q;
     extends = more;
-    memories_paired =
-        subst (λ z. AreMemoriesPaired (IsAmong q.nodes) (set_word grown x d v) (set_word grown_twin y z w)) same
-        (set_word_paired (IsAmong q.nodes) grown grown_twin k x y d v w (more.nodes x y at) words);
+    memories_paired = set_word_paired (IsAmong q.nodes) grown grown_twin k x y d e v w (more.nodes x y at) same words;
     outcomes_paired = goes;
   }
 
+  -- an exchange
   pub exchange_keeps : (q : Pairing) → Extends p q → (grown grown_twin : NatMitMem)
       → AreMemoriesPaired (IsAmong q.nodes) grown grown_twin
       → (x y : ℕ) (d e : Side) (l k : ℕ) (desired desired_twin : Word)
@@ -148,22 +140,17 @@ module _ (p : Pairing) (memory twin : NatMitMem) (h : AreMemoriesPaired (IsAmong
       (after_exchange twin y e k grown_twin desired_twin success_twin failure_twin)
   exchange_keeps q more grown grown_twin grow x y d e l k desired desired_twin success failure success_twin failure_twin
       at same expected words won lost =
-      found_paired (word_on d (node_at memory x)) (word_on e (node_at twin y))
-      (λ w. if is_plain l w then (set_word grown x d desired, success) else (memory, failure))
-      (λ w. if is_plain k w then (set_word grown_twin y e desired_twin, success_twin) else (twin, failure_twin))
-      (at_paired x y d e at same)
-      (λ v w r. choices_paired AreAccessesPaired (is_plain l v) (is_plain k w) (set_word grown x d desired, success)
-      (memory, failure) (set_word grown_twin y e desired_twin, success_twin) (twin, failure_twin)
+      found_paired (word_on d (node_at memory x)) (word_on e (node_at twin y)) _ _
+      (reads_paired P memory twin h x y d e at same)
+      (λ v w r. choices_paired AreAccessesPaired (is_plain l v) (is_plain k w) _ _ _ _
       (plain_paired P h.one_to_one l k v w expected r)
       (written q more grown grown_twin grow x y d e desired desired_twin success success_twin at same words won)
       (stays failure failure_twin lost))
 
+  -- the setting of a tag
   pub tag_keeps : (x y : ℕ) (d e : Side) (goes goes_twin : Outcome NatMitLoc) → P x y → d ≡ e
       → AreGoingAlike P goes goes_twin → AreAccessesPaired (after_tag memory x d goes) (after_tag twin y e goes_twin)
   tag_keeps x y d e goes goes_twin at same going =
-      found_paired (word_on d (node_at memory x)) (word_on e (node_at twin y))
-      (λ w. (set_word memory x d (record { flag = w.flag; tag = true; node = w.node }), goes))
-      (λ w. (set_word twin y e (record { flag = w.flag; tag = true; node = w.node }), goes_twin))
-      (at_paired x y d e at same)
-      (λ v w r. written p kept memory twin h x y d e (record { flag = v.flag; tag = true; node = v.node })
-      (record { flag = w.flag; tag = true; node = w.node }) goes goes_twin at same (r.0, refl, r.2) going)
+      found_paired (word_on d (node_at memory x)) (word_on e (node_at twin y)) _ _
+      (reads_paired P memory twin h x y d e at same)
+      (λ v w r. written p kept memory twin h x y d e _ _ goes goes_twin at same (r.0, refl, r.2) going)

@@ -1,57 +1,39 @@
 -- More pairs pair what fewer do, and new nodes, paired under fresh numbers, keep a pairing.
-use Rattle.std.specs.Prelude.{◌≡◌, ℕ, true, false, if◌then◌else◌, nat_lt, [], ◌∷◌, ◌++◌, length, refl}
-use Rattle.std.proofs.Common.{subst, inl, inr, length-append}
+use Rattle.std.specs.Prelude.{◌≡◌, ℕ, nat_lt, [], ◌∷◌, ◌++◌, length, refl, Option, Some, None}
+use Rattle.std.proofs.Common.{ap, inl, inr, length-append}
 use Rattle.std.proofs.lemmas.List.{append_assoc}
+use Rattle.tree_machine.specs.Cells.{IsPairedOrNone}
+use Rattle.tree_machine.specs.Laws.Cells.{AllZip-weaker}
 use Rattle.tree_machine.specs.Pairing.{Pairing, Extends, IsAmong}
-use Rattle.tree_machine.proofs.FreshPairs.{fresh_one, fresh_within, fresh_paired}
-use Rattle.natmit.specs.declared.memory.Word.{Word}
+use Rattle.tree_machine.specs.Parts.{Part, ArePartsPaired}
+use Rattle.tree_machine.proofs.FreshPairs.{choices_paired, fresh_one, fresh_within, fresh_paired}
 use Rattle.natmit.specs.declared.memory.Node.{Node}
 use Rattle.natmit.specs.declared.memory.Node.TheVariants.{Leaf, Internal}
 use Rattle.natmit.specs.declared.memory.NatMitMem.{NatMitMem}
-use Rattle.natmit.specs.Memory.{plain, node_at, key_at, internal_over, with_internal, new_internal}
-use Rattle.natmit.specs.Pairs.{AreWordsPaired, AreNodesPaired, AreMemoriesPaired, AreModesPaired, ArePathsPaired}
-use Rattle.natmit.specs.Pairs.{ArePlacesPaired}
-use Rattle.natmit.specs.declared.place.Mode.{Mode}
-use Rattle.natmit.specs.declared.place.Mode.TheVariants.{Plain, Owner}
-use Rattle.natmit.specs.declared.place.Path.{Path}
+use Rattle.natmit.specs.Memory.{plain, node_at, internal_over, with_internal, new_internal}
+use Rattle.natmit.specs.Pairs.{AreNodesPaired, AreMemoriesPaired, ArePlacesPaired}
+use Rattle.natmit.specs.Laws.Parts.{node_parts, place_parts}
 use Rattle.natmit.specs.declared.place.NatMitLoc.{NatMitLoc}
-use Rattle.natmit.specs.declared.place.NatMitLoc.TheVariants.{Begin, Down, Put, Flag, Look, CleanRead, Tag, Sibling}
-use Rattle.natmit.specs.declared.place.NatMitLoc.TheVariants.{Swing}
 use Rattle.natmit.specs.Laws.PairedAccesses.{AreFoundPaired, key_paired}
 
 -- ---- more pairs pair what fewer do
 
 module _ (P Q : ℕ → ℕ → Type 0) (f : (x y : ℕ) → P x y → Q x y) where
-  words_extend : (v w : Word) → AreWordsPaired P v w → AreWordsPaired Q v w
-  words_extend v w h = (h.0, h.1, f v.node w.node h.2)
+  name_weaker : (a b : Option ℕ) → IsPairedOrNone P a b → IsPairedOrNone Q a b
+  name_weaker None None h = tt
+  name_weaker (Some x) (Some y) h = f x y h
+  name_weaker _ _ h = absurd h
+
+  parts_weaker : (a b : Part) → ArePartsPaired P P a b → ArePartsPaired Q P a b
+  parts_weaker a b h =
+      record { facts = h.facts; nodes = AllZip-weaker _ _ name_weaker a.nodes b.nodes h.nodes; records = h.records }
 
   nodes_extend : (a b : Node) → AreNodesPaired P a b → AreNodesPaired Q a b
-  nodes_extend (Leaf k) (Leaf j) h = h
-  nodes_extend (Internal k l r) (Internal j m s) h = (h.0, words_extend l m h.1, words_extend r s h.2)
-  nodes_extend _ _ h = absurd h
+  nodes_extend a b h = (node_parts Q P a b).1 (parts_weaker _ _ ((node_parts P P a b).0 h))
 
--- ---- more pairs pair the places that fewer do
-
-module _ (P Q : ℕ → ℕ → Type 0) (f : (x y : ℕ) → P x y → Q x y) where
-  modes_extend : (m o : Mode) → AreModesPaired P m o → AreModesPaired Q m o
-  modes_extend Plain Plain h = tt
-  modes_extend (Owner x) (Owner y) h = f x y h
-  modes_extend _ _ h = absurd h
-
-  paths_extend : (p q : Path) → ArePathsPaired P p q → ArePathsPaired Q p q
-  paths_extend p q h = (f p.ancestor q.ancestor h.0, f p.successor q.successor h.1, f p.parent q.parent h.2)
-
+  -- places stay paired
   pub places_extend : (place twin : NatMitLoc) → ArePlacesPaired P place twin → ArePlacesPaired Q place twin
-  places_extend (Begin m) (Begin o) h = modes_extend m o h
-  places_extend (Down p l t m) (Down q k v o) h = (paths_extend p q h.0, f l k h.1, h.2, modes_extend m o h.3)
-  places_extend (Put p l) (Put q k) h = (paths_extend p q h.0, f l k h.1)
-  places_extend (Flag p l) (Flag q k) h = (paths_extend p q h.0, f l k h.1)
-  places_extend (Look p l) (Look q k) h = (paths_extend p q h.0, f l k h.1)
-  places_extend (CleanRead p m) (CleanRead q o) h = (paths_extend p q h.0, modes_extend m o h.1)
-  places_extend (Tag p d m) (Tag q e o) h = (paths_extend p q h.0, h.1, modes_extend m o h.2)
-  places_extend (Sibling p d m) (Sibling q e o) h = (paths_extend p q h.0, h.1, modes_extend m o h.2)
-  places_extend (Swing a s g x m) (Swing b u v y o) h = (f a b h.0, f s u h.1, h.2, f x y h.3, modes_extend m o h.4)
-  places_extend _ _ h = absurd h
+  places_extend a b h = (place_parts Q P a b).1 (parts_weaker _ _ ((place_parts P P a b).0 h))
 
 -- ---- a node that is appended
 
@@ -86,13 +68,9 @@ with_node_paired p memory twin a b h g =
 over_paired : (P : ℕ → ℕ → Type 0) (k x y i j l m : ℕ) → P x y → i ≡ j → P l m
     → AreNodesPaired P (internal_over k i x l) (internal_over k j y m)
 over_paired P k x y i j l m p e q =
-    subst (λ z. AreNodesPaired P (internal_over k i x l) (internal_over k z y m)) e
-    (elim (nat_lt k i) as
-    (λ b. AreNodesPaired P (if b then Internal i (plain x) (plain l) else Internal k (plain l) (plain x))
-    (if b then Internal i (plain y) (plain m) else Internal k (plain m) (plain y))) [
-      | true ↦ (refl, (refl, refl, p), (refl, refl, q))
-      | false ↦ (refl, (refl, refl, q), (refl, refl, p))
-    ])
+    choices_paired (AreNodesPaired P) (nat_lt k i) (nat_lt k j) (Internal i (plain x) (plain l))
+    (Internal k (plain l) (plain x)) (Internal j (plain y) (plain m)) (Internal k (plain m) (plain y)) (ap (nat_lt k) e)
+    (e, (refl, refl, p), (refl, refl, q)) (refl, (refl, refl, q), (refl, refl, p))
 
 -- the pairs with those of the new leaves and the new internal nodes
 abbrev pub with_two_new : Pairing → NatMitMem → NatMitMem → ℕ → Pairing
@@ -110,19 +88,9 @@ pub with_internal_paired : (p : Pairing) (memory twin : NatMitMem) (k l m : ℕ)
     → IsIn p l m
     → AreMemoriesPaired (IsIn (with_two_new p memory twin k)) (with_internal memory k l) (with_internal twin k m)
 with_internal_paired p memory twin k l m h at =
-    let n = length memory.nodes in
-    let o = length twin.nodes in
-    let new = internal_over k (key_at memory l) n l in
-    let new_twin = internal_over k (key_at twin m) o m in
-    let Q = IsIn (with_two_new p memory twin k) in
     let leaves = with_node_paired p memory twin (Leaf k) (Leaf k) h refl in
     let over =
-    over_paired Q k n o (key_at memory l) (key_at twin m) l m (inr (inl (refl, refl)))
-    (key_paired (IsIn p) (node_at memory l) (node_at twin m) (h.nodes_paired l m at)) (inr (inr at)) in
-    let both =
-    with_node_paired (with_new p memory twin) (with_node memory (Leaf k)) (with_node twin (Leaf k)) new new_twin
-    leaves over in
-    subst (λ nodes. AreMemoriesPaired Q (record { nodes = nodes }) (with_internal twin k m))
-    (append_assoc memory.nodes (Leaf k ∷ []) (new ∷ []))
-    (subst (λ nodes. AreMemoriesPaired Q (with_node (with_node memory (Leaf k)) new) (record { nodes = nodes }))
-    (append_assoc twin.nodes (Leaf k ∷ []) (new_twin ∷ [])) both)
+    over_paired (IsIn (with_two_new p memory twin k)) k (length memory.nodes) (length twin.nodes) _ _ l m
+    (inr (inl (refl, refl))) (key_paired (IsIn p) _ _ (h.nodes_paired l m at)) (inr (inr at)) in
+    simp append_assoc at
+    (with_node_paired (with_new p memory twin) (with_node memory (Leaf k)) (with_node twin (Leaf k)) _ _ leaves over)

@@ -1,5 +1,5 @@
 -- Accesses of paired places to paired memories keep a pairing, row by row of the place table.
-use Rattle.std.specs.Prelude.{◌≡◌, ℕ, true, false, ◌&&◌, if◌then◌else◌, nat_eq, refl, Bool, ◌||◌}
+use Rattle.std.specs.Prelude.{◌≡◌, ℕ, true, false, ◌&&◌, nat_eq, refl, Bool, ◌||◌}
 use Rattle.std.proofs.Common.{ap}
 use Rattle.tree_machine.specs.declared.search_order.Side.{Side}
 use Rattle.tree_machine.specs.declared.search_order.Side.TheVariants.{Left}
@@ -15,7 +15,6 @@ use Rattle.natmit.specs.Pairs.{ArePlacesPaired}
 use Rattle.sched_program.specs.Program.{key_of}
 use Rattle.sched_program.specs.declared.operation.Op.{Op}
 use Rattle.sched_program.specs.declared.operation.Op.TheVariants.{Insert, Delete, Find}
-use Rattle.tree_machine.specs.declared.machine.Outcome.TheVariants.{Goes, Replies}
 use Rattle.natmit.specs.declared.place.Mode.{Mode}
 use Rattle.natmit.specs.declared.place.Mode.TheVariants.{Plain, Owner}
 use Rattle.natmit.specs.declared.place.Path.{Path}
@@ -24,7 +23,7 @@ use Rattle.natmit.specs.declared.place.NatMitLoc.TheVariants.{Begin, Down, Put, 
 use Rattle.natmit.specs.declared.place.NatMitLoc.TheVariants.{Swing}
 use Rattle.natmit.specs.declared.machine.NatMit.{NatMit}
 use Rattle.natmit.specs.Table.{other_side, path_of, path_below, arrived, went_down, looked, tagging, clean_read, swung}
-use Rattle.natmit.specs.Table.{not_swung, act}
+use Rattle.natmit.specs.Table.{act}
 use Rattle.natmit.specs.Laws.PairedAccesses.{AreGoingAlike, AreAccessesPaired, kept, side_paired, read_keeps}
 use Rattle.natmit.specs.Laws.PairedAccesses.{exchange_keeps, tag_keeps}
 use Rattle.natmit.specs.Laws.PairedAppends.{with_two_new, two_new_extend, internals_paired, with_internal_paired}
@@ -40,12 +39,8 @@ module _ (P : ℕ → ℕ → Type 0) where
   tagging_paired : (machine : NatMit) (p q : Path) (d e : Side) (m o : Mode) → ArePathsPaired P p q
       → d ≡ e → AreModesPaired P m o → ArePlacesPaired P (tagging machine p d m) (tagging machine q e o)
   tagging_paired machine p q d e m o h same hm =
-      elim machine.tag as
-      (λ c. ArePlacesPaired P (if c then Tag p d m else Sibling p d m)
-      (if c then Tag q e o else Sibling q e o)) [
-        | true ↦ (h, same, hm)
-        | false ↦ (h, same, hm)
-      ]
+      choices_paired (ArePlacesPaired P) machine.tag machine.tag (Tag p d m) (Sibling p d m) (Tag q e o) (Sibling q e o)
+      refl (h, same, hm) (h, same, hm)
 
   below_paired : (p q : Path) (l k : ℕ) (t v : Bool) → ArePathsPaired P p q → P l k → t ≡ v
       → ArePathsPaired P (path_below p l t) (path_below q k v)
@@ -61,18 +56,14 @@ module _ (P : ℕ → ℕ → Type 0) where
     arrived_paired op p q l k t v m o (Internal i x y) (Internal j z w) hp hl ht hm h = (hp, hl, ht, hm)
     arrived_paired (Find n) p q l k t v m o (Leaf i) (Leaf j) hp hl ht hm h = ap (λ z. nat_eq z n) h
     arrived_paired (Insert n) p q l k t v m o (Leaf i) (Leaf j) hp hl ht hm h =
-        choices_paired (AreGoingAlike P) (nat_eq i n) (nat_eq j n) (Replies false) (Goes (Put p l)) (Replies false)
-        (Goes (Put q k)) (ap (λ z. nat_eq z n) h) refl (hp, hl)
+        choices_paired (AreGoingAlike P) (nat_eq i n) (nat_eq j n) _ _ _ _ (ap (λ z. nat_eq z n) h) refl (hp, hl)
     arrived_paired (Delete n) p q l k t v Plain Plain (Leaf i) (Leaf j) hp hl ht hm h =
-        choices_paired (AreGoingAlike P) (nat_eq i n) (nat_eq j n) (Goes (Flag p l)) (Replies false)
-        (Goes (Flag q k)) (Replies false) (ap (λ z. nat_eq z n) h) (hp, hl) refl
-    arrived_paired (Delete n) p q l k t v Plain (Owner y) (Leaf i) (Leaf j) hp hl ht hm h = absurd hm
-    arrived_paired (Delete n) p q l k t v (Owner x) Plain (Leaf i) (Leaf j) hp hl ht hm h = absurd hm
+        choices_paired (AreGoingAlike P) (nat_eq i n) (nat_eq j n) _ _ _ _ (ap (λ z. nat_eq z n) h) (hp, hl) refl
     arrived_paired (Delete n) p q l k t v (Owner x) (Owner y) (Leaf i) (Leaf j) hp hl ht hm h =
-        choices_paired (AreGoingAlike P) (nat_eq l x) (nat_eq k y) (Goes (CleanRead p (Owner x))) (Replies true)
-        (Goes (CleanRead q (Owner y))) (Replies true) (same_number P one l k x y hl hm) (hp, hm) refl
-    arrived_paired op p q l k t v m o (Leaf i) (Internal j z w) hp hl ht hm h = absurd h
-    arrived_paired op p q l k t v m o (Internal i x y) (Leaf j) hp hl ht hm h = absurd h
+        choices_paired (AreGoingAlike P) (nat_eq l x) (nat_eq k y) _ _ _ _ (same_number P one l k x y hl hm) (hp, hm)
+        refl
+    arrived_paired (Delete n) p q l k t v _ _ (Leaf i) (Leaf j) hp hl ht hm h = absurd hm
+    arrived_paired op p q l k t v m o _ _ hp hl ht hm h = absurd h
 
     looked_paired : (p q : Path) (l k : ℕ) (v w : Word) → ArePathsPaired P p q → P l k
         → AreWordsPaired P v w → AreGoingAlike P (looked p l v) (looked q k w)
@@ -81,8 +72,7 @@ module _ (P : ℕ → ℕ → Type 0) where
         let flag : v.flag ≡ w.flag = h.0 in
         let tag : v.tag ≡ w.tag = h.1 in
         choices_paired (AreGoingAlike P) (nat_eq v.node l && (v.flag || v.tag)) (nat_eq w.node k && (w.flag || w.tag))
-        (Goes (CleanRead p Plain)) (Goes (Begin Plain)) (Goes (CleanRead q Plain)) (Goes (Begin Plain))
-        (λ i. node i && (flag i || tag i)) (hp, tt) tt
+        _ _ _ _ (λ i. node i && (flag i || tag i)) (hp, tt) tt
 
 -- ---- each place
 
@@ -104,11 +94,11 @@ module _ (p : Pairing) (memory twin : NatMitMem) (h : AreMemoriesPaired (IsAmong
       → ArePlacesPaired P (CleanRead q m) (CleanRead r o) → (v w : Word) → AreWordsPaired P v w
       → AreGoingAlike P (clean_read machine q d m v) (clean_read machine r e o w)
   clean_keeps machine q r d e m o agree g v w words =
-      choices_paired (AreGoingAlike P) v.flag w.flag (Goes (tagging machine q (other_side d) m))
-      (Goes (tagging machine q d m)) (Goes (tagging machine r (other_side e) o)) (Goes (tagging machine r e o)) words.0
+      choices_paired (AreGoingAlike P) v.flag w.flag _ _ _ _ words.0
       (tagging_paired P machine q r (other_side d) (other_side e) m o g.0 (ap other_side agree) g.1)
       (tagging_paired P machine q r d e m o g.0 agree g.1)
 
+  -- accesses of paired places keep a pairing
   pub act_keeps : (machine : NatMit) (op : Op) (place place_twin : NatMitLoc) → ArePlacesPaired P place place_twin
       → AreAccessesPaired p memory twin h (act machine op place memory) (act machine op place_twin twin)
   act_keeps machine op (Begin m) (Begin o) g =
@@ -116,44 +106,29 @@ module _ (p : Pairing) (memory twin : NatMitMem) (h : AreMemoriesPaired (IsAmong
       read_keeps p memory twin h 1 1 Left Left _ _ h.begin_paired refl
       (down_keeps op first first m o (h.root_paired, h.begin_paired, h.begin_paired) g)
   act_keeps machine op (Down q l t m) (Down r k c o) g =
-      read_keeps p memory twin h l k (side_at (key_of op) memory l) (side_at (key_of op) twin k)
-      (went_down op (path_below q l t) m memory) (went_down op (path_below r k c) o twin) g.1
-      (sides (key_of op) l k g.1)
+      read_keeps p memory twin h l k _ _ _ _ g.1 (sides (key_of op) l k g.1)
       (down_keeps op (path_below q l t) (path_below r k c) m o (below_paired P q r l k t c g.0 g.1 g.2) g.3)
   act_keeps machine op (Put q l) (Put r k) g =
       let n = key_of op in
       exchange_keeps p memory twin h (with_two_new p memory twin n) (two_new_extend p memory twin n)
       (with_internal memory n l) (with_internal twin n k) (with_internal_paired p memory twin n l k h g.1)
-      q.parent r.parent (side_at n memory q.parent) (side_at n twin r.parent) l k (plain (new_internal memory))
-      (plain (new_internal twin)) (Replies true) (Goes (Look q l)) (Replies true) (Goes (Look r k))
+      q.parent r.parent _ _ l k (plain (new_internal memory)) (plain (new_internal twin)) _ _ _ _
       g.0.2 (sides n q.parent r.parent g.0.2) g.1 (refl, refl, internals_paired p memory twin n) refl g
   act_keeps machine op (Flag q l) (Flag r k) g =
-      let n = key_of op in
-      exchange_keeps p memory twin h p (kept p memory twin h) memory twin h
-      q.parent r.parent (side_at n memory q.parent) (side_at n twin r.parent) l k
-      (record { flag = true; tag = false; node = l }) (record { flag = true; tag = false; node = k })
-      (Goes (CleanRead q (Owner l))) (Goes (Look q l)) (Goes (CleanRead r (Owner k))) (Goes (Look r k))
-      g.0.2 (sides n q.parent r.parent g.0.2) g.1 (refl, refl, g.1) g g
+      exchange_keeps p memory twin h p (kept p memory twin h) memory twin h q.parent r.parent _ _ l k _ _ _ _ _ _
+      g.0.2 (sides (key_of op) q.parent r.parent g.0.2) g.1 (refl, refl, g.1) g g
   act_keeps machine op (Look q l) (Look r k) g =
-      read_keeps p memory twin h q.parent r.parent (side_at (key_of op) memory q.parent)
-      (side_at (key_of op) twin r.parent) (looked q l) (looked r k) g.0.2 (sides (key_of op) q.parent r.parent g.0.2)
-      (λ v w words. looked_paired P h.one_to_one q r l k v w g.0 g.1 words)
+      read_keeps p memory twin h q.parent r.parent _ _ _ _ g.0.2 (sides (key_of op) q.parent r.parent g.0.2)
+      (λ v w. looked_paired P h.one_to_one q r l k v w g.0 g.1)
   act_keeps machine op (CleanRead q m) (CleanRead r o) g =
-      let d = side_at (key_of op) memory q.parent in
-      let e = side_at (key_of op) twin r.parent in
       let same = sides (key_of op) q.parent r.parent g.0.2 in
-      read_keeps p memory twin h q.parent r.parent d e (clean_read machine q d m) (clean_read machine r e o) g.0.2
-      same (clean_keeps machine q r d e m o same g)
+      read_keeps p memory twin h q.parent r.parent _ _ _ _ g.0.2 same (clean_keeps machine q r _ _ m o same g)
   act_keeps machine op (Tag q d m) (Tag r e o) g =
-      tag_keeps p memory twin h q.parent r.parent d e (Goes (Sibling q d m)) (Goes (Sibling r e o)) g.0.2 g.1 g
+      tag_keeps p memory twin h q.parent r.parent d e _ _ g.0.2 g.1 g
   act_keeps machine op (Sibling q d m) (Sibling r e o) g =
-      read_keeps p memory twin h q.parent r.parent d e (λ w. Goes (Swing q.ancestor q.successor w.flag w.node m))
-      (λ w. Goes (Swing r.ancestor r.successor w.flag w.node o)) g.0.2 g.1
+      read_keeps p memory twin h q.parent r.parent d e _ _ g.0.2 g.1
       (λ v w words. (g.0.0, g.0.1, words.0, words.2, g.2))
   act_keeps machine op (Swing a s f x m) (Swing b u c y o) g =
-      let n = key_of op in
-      exchange_keeps p memory twin h p (kept p memory twin h) memory twin h
-      a b (side_at n memory a) (side_at n twin b) s u (record { flag = f; tag = false; node = x })
-      (record { flag = c; tag = false; node = y }) (swung m) (not_swung m) (swung o) (not_swung o)
-      g.0 (sides n a b g.0) g.1 (g.2, refl, g.3) (swung_paired P m o g.4) g.4
+      exchange_keeps p memory twin h p (kept p memory twin h) memory twin h a b _ _ s u _ _ _ _ _ _
+      g.0 (sides (key_of op) a b g.0) g.1 (g.2, refl, g.3) (swung_paired P m o g.4) g.4
   act_keeps machine op _ _ g = absurd g

@@ -15,21 +15,22 @@ use Rattle.natmit.specs.declared.memory.Node.TheVariants.{Leaf, Internal}
 use Rattle.natmit.specs.declared.memory.NatMitMem.{NatMitMem}
 use Rattle.natmit.specs.declared.place.Mode.{Mode}
 use Rattle.natmit.specs.declared.place.Mode.TheVariants.{Plain, Owner}
+use Rattle.natmit.specs.declared.place.Path.{Path}
 use Rattle.natmit.specs.declared.place.NatMitLoc.{NatMitLoc}
 use Rattle.natmit.specs.declared.place.NatMitLoc.TheVariants.{Begin, Down, Put, Flag, Look, CleanRead, Tag, Sibling}
 use Rattle.natmit.specs.declared.place.NatMitLoc.TheVariants.{Swing}
-use Rattle.natmit.specs.Pairs.{AreNodesPaired, AreModesPaired, ArePlacesPaired, AreMemoriesPaired, natmit_pairs}
-use Rattle.natmit.specs.Parts.{bit, mark_number, side_number, owned, part_of, node_part, place_part, held_part}
-use Rattle.natmit.specs.Parts.{natmit_parts}
+use Rattle.natmit.specs.Pairs.{AreNodesPaired, AreModesPaired, ArePathsPaired, ArePlacesPaired, AreMemoriesPaired}
+use Rattle.natmit.specs.Pairs.{natmit_pairs}
+use Rattle.natmit.specs.Parts.{bit, mark_number, side_number, owned, part_of, node_part, path_part, place_part}
+use Rattle.natmit.specs.Parts.{held_part, natmit_parts}
 use Rattle.natmit.specs.Laws.PairedAccesses.{AreFoundPaired}
 
 -- ---- facts determine what they are of
 
 bit_tells : (a b : Bool) → bit a ≡ bit b → a ≡ b
 bit_tells false false e = refl
-bit_tells false true e = absurd (omega arith)
-bit_tells true false e = absurd (omega arith)
 bit_tells true true e = refl
+bit_tells _ _ e = absurd (omega arith)
 
 -- the flags and the tags of two children
 marks_tell : (a b c d : Word) → mark_number a + 4 * mark_number b ≡ mark_number c + 4 * mark_number d
@@ -58,107 +59,100 @@ marks_tell a b c d e =
 
 side_tells : (a b : Side) → side_number a ≡ side_number b → a ≡ b
 side_tells Left Left e = refl
-side_tells Left Right e = absurd (omega arith)
-side_tells Right Left e = absurd (omega arith)
 side_tells Right Right e = refl
+side_tells _ _ e = absurd (omega arith)
 
 -- ---- nodes and places, and their parts
 
 module _ (P R : ℕ → ℕ → Type 0) where
-  parts_of_nodes : (a b : Node) → AreNodesPaired P a b → ArePartsPaired P R (node_part a) (node_part b)
-  parts_of_nodes (Leaf k) (Leaf j) h = record { facts = ap (λ x. x ∷ []) h; nodes = tt; records = tt }
-  parts_of_nodes (Internal k l r) (Internal j m s) h =
-      let key : k ≡ j = h.0 in
-      let left : (l.flag ≡ m.flag) × (l.tag ≡ m.tag) × P l.node m.node = h.1 in
-      let right : (r.flag ≡ s.flag) × (r.tag ≡ s.tag) × P r.node s.node = h.2 in
-      record {
-        facts = λ i.
-            key i ∷ (bit (left.0 i) + 2 * bit (left.1 i) + 4 * (bit (right.0 i) + 2 * bit (right.1 i))) ∷ [];
-        nodes = (left.2, (right.2, tt));
-        records = tt;
-      }
-  parts_of_nodes _ _ h = absurd h
+  -- nodes are paired exactly if their parts are
+  pub node_parts : (a b : Node) → AreNodesPaired P a b ↔ ArePartsPaired P R (node_part a) (node_part b)
+  node_parts (Leaf k) (Leaf j) = (
+    (λ h. record { facts = ap (λ x. x ∷ []) h; nodes = tt; records = tt }),
+    (λ h. let f = h.facts in cc),
+  )
+  node_parts (Internal k l r) (Internal j m s) = (
+    (λ h.
+        let key : k ≡ j = h.0 in
+        let left : (l.flag ≡ m.flag) × (l.tag ≡ m.tag) × P l.node m.node = h.1 in
+        let right : (r.flag ≡ s.flag) × (r.tag ≡ s.tag) × P r.node s.node = h.2 in
+        record {
+          facts = λ i.
+              key i ∷ (bit (left.0 i) + 2 * bit (left.1 i) + 4 * (bit (right.0 i) + 2 * bit (right.1 i))) ∷ [];
+          nodes = (left.2, (right.2, tt));
+          records = tt;
+        }),
+    (λ h.
+        let f = h.facts in
+        let marks = marks_tell l r m s (cc) in
+        ((let e : k ≡ j = cc in e), (marks.0, marks.1, h.nodes.0), (marks.2, marks.3, h.nodes.1.0))),
+  )
+  node_parts _ _ = (λ h. absurd h, λ h. let f = h.facts in cc)
 
-  pub nodes_of_parts : (a b : Node) → ArePartsPaired P R (node_part a) (node_part b) → AreNodesPaired P a b
-  nodes_of_parts (Leaf k) (Leaf j) h = let f = h.facts in cc
-  nodes_of_parts (Internal k l r) (Internal j m s) h =
-      let f = h.facts in
-      let marks = marks_tell l r m s (cc) in (
-        (let e : k ≡ j = cc in e),
-        (marks.0, marks.1, h.nodes.0),
-        (marks.2, marks.3, h.nodes.1.0),
-      )
-  nodes_of_parts _ _ h = let f = h.facts in cc
-
-  owned_paired : (m o : Mode) → AreModesPaired P m o → IsPairedOrNone P (owned m) (owned o)
-  owned_paired Plain Plain h = tt
-  owned_paired (Owner x) (Owner y) h = h
-  owned_paired _ _ h = absurd h
-
-  modes_paired : (m o : Mode) → IsPairedOrNone P (owned m) (owned o) → AreModesPaired P m o
-  modes_paired Plain Plain h = tt
-  modes_paired (Owner x) (Owner y) h = h
-  modes_paired _ _ h = absurd h
+  mode_parts : (m o : Mode) → AreModesPaired P m o ↔ IsPairedOrNone P (owned m) (owned o)
+  mode_parts Plain Plain = (λ h. tt, λ h. tt)
+  mode_parts (Owner x) (Owner y) = (λ h. h, λ h. h)
+  mode_parts _ _ = (λ h. absurd h, λ h. absurd h)
 
   -- parts that name no records
   paired : {f g : List ℕ} {nodes twins : List (Option ℕ)} → f ≡ g → AllZip (IsPairedOrNone P) nodes twins
       → ArePartsPaired P R (part_of f nodes) (part_of g twins)
   paired e h = record { facts = e; nodes = h; records = tt }
 
-  parts_of_places : (place twin : NatMitLoc) → ArePlacesPaired P place twin
-      → ArePartsPaired P R (place_part place) (place_part twin)
-  parts_of_places (Begin m) (Begin o) h = paired refl (owned_paired m o h, tt)
-  parts_of_places (Down p l t m) (Down q k v o) h =
-      paired (ap (λ c. 2 ∷ bit c ∷ []) h.2) (h.0.0, (h.0.1, (h.0.2, (h.1, (owned_paired m o h.3, tt)))))
-  parts_of_places (Put p l) (Put q k) h = paired refl (h.0.0, (h.0.1, (h.0.2, (h.1, tt))))
-  parts_of_places (Flag p l) (Flag q k) h = paired refl (h.0.0, (h.0.1, (h.0.2, (h.1, tt))))
-  parts_of_places (Look p l) (Look q k) h = paired refl (h.0.0, (h.0.1, (h.0.2, (h.1, tt))))
-  parts_of_places (CleanRead p m) (CleanRead q o) h =
-      paired refl (h.0.0, (h.0.1, (h.0.2, (owned_paired m o h.1, tt))))
-  parts_of_places (Tag p d m) (Tag q e o) h =
-      paired (ap (λ c. 7 ∷ side_number c ∷ []) h.1) (h.0.0, (h.0.1, (h.0.2, (owned_paired m o h.2, tt))))
-  parts_of_places (Sibling p d m) (Sibling q e o) h =
-      paired (ap (λ c. 8 ∷ side_number c ∷ []) h.1) (h.0.0, (h.0.1, (h.0.2, (owned_paired m o h.2, tt))))
-  parts_of_places (Swing a s f x m) (Swing b u g y o) h =
-      paired (ap (λ c. 9 ∷ bit c ∷ []) h.2) (h.0, (h.1, (h.3, (owned_paired m o h.4, tt))))
-  parts_of_places _ _ h = absurd h
+  -- a path, and a leaf behind it
+  leaf_parts : (f : List ℕ) (p q : Path) (l k : ℕ) → ArePathsPaired P p q × P l k
+      ↔ ArePartsPaired P R (path_part f p (Some l ∷ [])) (path_part f q (Some k ∷ []))
+  leaf_parts f p q l k = (
+    (λ h. paired refl (h.0.0, (h.0.1, (h.0.2, (h.1, tt))))),
+    (λ h. let n = h.nodes in ((n.0, n.1.0, n.1.1.0), n.1.1.1.0)),
+  )
 
-  places_of_parts : (place twin : NatMitLoc) → ArePartsPaired P R (place_part place) (place_part twin)
-      → ArePlacesPaired P place twin
-  places_of_parts (Begin m) (Begin o) h = modes_paired m o h.nodes.0
-  places_of_parts (Down p l t m) (Down q k v o) h =
-      let f = h.facts in
-      let n = h.nodes in ((n.0, n.1.0, n.1.1.0), n.1.1.1.0, bit_tells t v cc, modes_paired m o n.1.1.1.1.0)
-  places_of_parts (Put p l) (Put q k) h = let n = h.nodes in ((n.0, n.1.0, n.1.1.0), n.1.1.1.0)
-  places_of_parts (Flag p l) (Flag q k) h = let n = h.nodes in ((n.0, n.1.0, n.1.1.0), n.1.1.1.0)
-  places_of_parts (Look p l) (Look q k) h = let n = h.nodes in ((n.0, n.1.0, n.1.1.0), n.1.1.1.0)
-  places_of_parts (CleanRead p m) (CleanRead q o) h =
-      let n = h.nodes in ((n.0, n.1.0, n.1.1.0), modes_paired m o n.1.1.1.0)
-  places_of_parts (Tag p d m) (Tag q e o) h =
-      let f = h.facts in let n = h.nodes in ((n.0, n.1.0, n.1.1.0), side_tells d e cc, modes_paired m o n.1.1.1.0)
-  places_of_parts (Sibling p d m) (Sibling q e o) h =
-      let f = h.facts in let n = h.nodes in ((n.0, n.1.0, n.1.1.0), side_tells d e cc, modes_paired m o n.1.1.1.0)
-  places_of_parts (Swing a s f x m) (Swing b u g y o) h =
-      let e = h.facts in let n = h.nodes in (n.0, n.1.0, bit_tells f g cc, n.1.1.0, modes_paired m o n.1.1.1.0)
-  places_of_parts _ _ h = let f = h.facts in cc
+  -- places are paired exactly if their parts are
+  pub place_parts : (place twin : NatMitLoc)
+      → ArePlacesPaired P place twin ↔ ArePartsPaired P R (place_part place) (place_part twin)
+  place_parts (Begin m) (Begin o) = let mode = mode_parts m o in
+      (λ h. paired refl (mode.0 h, tt), λ h. mode.1 h.nodes.0)
+  place_parts (Down p l t m) (Down q k v o) = let mode = mode_parts m o in (
+    (λ h. paired (ap (λ c. 2 ∷ bit c ∷ []) h.2) (h.0.0, (h.0.1, (h.0.2, (h.1, (mode.0 h.3, tt)))))),
+    (λ h. let f = h.facts in let n = h.nodes in
+        ((n.0, n.1.0, n.1.1.0), n.1.1.1.0, bit_tells t v (cc), mode.1 n.1.1.1.1.0)),
+  )
+  place_parts (Put p l) (Put q k) = leaf_parts _ p q l k
+  place_parts (Flag p l) (Flag q k) = leaf_parts _ p q l k
+  place_parts (Look p l) (Look q k) = leaf_parts _ p q l k
+  place_parts (CleanRead p m) (CleanRead q o) = let mode = mode_parts m o in (
+    (λ h. paired refl (h.0.0, (h.0.1, (h.0.2, (mode.0 h.1, tt))))),
+    (λ h. let n = h.nodes in ((n.0, n.1.0, n.1.1.0), mode.1 n.1.1.1.0)),
+  )
+  place_parts (Tag p d m) (Tag q e o) = let mode = mode_parts m o in (
+    (λ h. paired (ap (λ c. 7 ∷ side_number c ∷ []) h.1) (h.0.0, (h.0.1, (h.0.2, (mode.0 h.2, tt))))),
+    (λ h. let f = h.facts in let n = h.nodes in
+        ((n.0, n.1.0, n.1.1.0), side_tells d e (cc), mode.1 n.1.1.1.0)),
+  )
+  place_parts (Sibling p d m) (Sibling q e o) = let mode = mode_parts m o in (
+    (λ h. paired (ap (λ c. 8 ∷ side_number c ∷ []) h.1) (h.0.0, (h.0.1, (h.0.2, (mode.0 h.2, tt))))),
+    (λ h. let f = h.facts in let n = h.nodes in
+        ((n.0, n.1.0, n.1.1.0), side_tells d e (cc), mode.1 n.1.1.1.0)),
+  )
+  place_parts (Swing a s f x m) (Swing b u g y o) = let mode = mode_parts m o in (
+    (λ h. paired (ap (λ c. 9 ∷ bit c ∷ []) h.2) (h.0, (h.1, (h.3, (mode.0 h.4, tt))))),
+    (λ h. let e = h.facts in let n = h.nodes in
+        (n.0, n.1.0, bit_tells f g (cc), n.1.1.0, mode.1 n.1.1.1.0)),
+  )
+  place_parts _ _ = (λ h. absurd h, λ h. let f = h.facts in cc)
 
   -- no place has the part of a thread that holds none
   never_idle : (place : NatMitLoc) → (held_part None).facts ≡ (place_part place).facts → ⊥
   never_idle (Begin m) e = cc
   never_idle _ e = cc
 
-  parts_of_held : (place twin : Option NatMitLoc) → AreHeldPaired (ArePlacesPaired P) place twin
-      → ArePartsPaired P R (held_part place) (held_part twin)
-  parts_of_held None None h = record { facts = refl; nodes = tt; records = tt }
-  parts_of_held (Some place) (Some twin) h = parts_of_places place twin h
-  parts_of_held _ _ h = absurd h
-
-  pub held_of_parts : (place twin : Option NatMitLoc) → ArePartsPaired P R (held_part place) (held_part twin)
-      → AreHeldPaired (ArePlacesPaired P) place twin
-  held_of_parts None None h = tt
-  held_of_parts (Some place) (Some twin) h = places_of_parts place twin h
-  held_of_parts None (Some twin) h = never_idle twin h.facts
-  held_of_parts (Some place) None h = never_idle place (sym h.facts)
+  -- what two threads hold is paired exactly if the parts are
+  pub held_parts : (place twin : Option NatMitLoc)
+      → AreHeldPaired (ArePlacesPaired P) place twin ↔ ArePartsPaired P R (held_part place) (held_part twin)
+  held_parts None None = (λ h. record { facts = refl; nodes = tt; records = tt }, λ h. tt)
+  held_parts (Some place) (Some twin) = place_parts place twin
+  held_parts None (Some twin) = (λ h. absurd h, λ h. absurd (never_idle twin h.facts))
+  held_parts (Some place) None = (λ h. absurd h, λ h. absurd (never_idle place (sym h.facts)))
 
 -- ---- memories, and their parts
 
@@ -189,11 +183,11 @@ module _ (memory other : NatMitMem) (held others : List (Option NatMitLoc)) wher
           records_in_range = λ x y none. absurd none;
           nodes_paired =
               λ x y at. parts_at node_part memory.nodes other.nodes x y P R (AreFoundPaired P) (h.in_range x y at)
-              (parts_of_nodes P R) (h.nodes_paired x y at);
+              (λ a b. (node_parts P R a b).0) (h.nodes_paired x y at);
           records_paired = λ x y none. absurd none;
           held_paired =
-              zip_map held_part (AreHeldPaired (ArePlacesPaired P)) (ArePartsPaired P R) (parts_of_held P R) held others
-              alike.2;
+              zip_map held_part (AreHeldPaired (ArePlacesPaired P)) (ArePartsPaired P R)
+              (λ a b. (held_parts P R a b).0) held others alike.2;
         },
       )
 
@@ -212,10 +206,10 @@ module _ (memory other : NatMitMem) (held others : List (Option NatMitLoc)) wher
           in_range = in_range;
           nodes_paired =
               λ x y at. values_at node_part memory.nodes other.nodes x y P R (AreFoundPaired P) (in_range x y at)
-              (nodes_of_parts P R) (h.nodes_paired x y at);
+              (λ a b. (node_parts P R a b).1) (h.nodes_paired x y at);
         },
-        zip_unmap held_part (AreHeldPaired (ArePlacesPaired P)) (ArePartsPaired P R) (held_of_parts P R) held others
-            h.held_paired,
+        zip_unmap held_part (AreHeldPaired (ArePlacesPaired P)) (ArePartsPaired P R)
+            (λ a b. (held_parts P R a b).1) held others h.held_paired,
       )
 
   -- the parts can be paired exactly if memories and places are alike

@@ -1,10 +1,11 @@
--- The numbers of a memory and of places are in range exactly if those of their parts are.
-use Rattle.std.specs.Prelude.{◌≡◌, ℕ, ◌<◌, List, [], ◌∷◌, map, length, Option, Some, None, IfSome, All, refl}
+-- The numbers of a memory and of places are in range exactly if those of their parts are, and stay so where there are
+-- more nodes.
+use Rattle.std.specs.Prelude.{ℕ, ◌<◌, ◌≤◌, ◌↔◌, List, [], ◌∷◌, map, length, Option, Some, None, IfSome, All, refl}
 use Rattle.std.specs.List.{AllByRecursion}
 use Rattle.std.proofs.Common.{arith}
 use Rattle.std.proofs.lemmas.List.{length-map}
-use Rattle.std.proofs.lemmas.List.Elements.{All-nil, All-from_recursion, recursion_from_All}
-use Rattle.tree_machine.specs.Parts.{IsPartBelow, ArePartsInRange}
+use Rattle.std.proofs.lemmas.List.Elements.{All-nil, All-weaker, All-from_recursion, recursion_from_All}
+use Rattle.tree_machine.specs.Parts.{Part, IsPartBelow, ArePartsInRange}
 use Rattle.tree_machine.proofs.ValueParts.{all_below, all_in}
 use Rattle.natmit.specs.declared.memory.Node.{Node}
 use Rattle.natmit.specs.declared.memory.Node.TheVariants.{Leaf, Internal}
@@ -18,104 +19,105 @@ use Rattle.natmit.specs.declared.place.NatMitLoc.TheVariants.{Swing}
 use Rattle.natmit.specs.Range.{IsNodeIn, IsModeIn, IsPathIn, IsPlaceIn, IsInRange, IsPlaceInRange}
 use Rattle.natmit.specs.Parts.{owned, part_of, node_part, path_part, place_part, held_part, natmit_parts}
 
+-- ---- the numbers of a value are in range exactly if those of its part are
+
 module _ (n r : ℕ) where
   abbrev IsBelow : Option ℕ → Type 0
   IsBelow o = IfSome o (λ x. x < n)
 
-  owned_below : (m : Mode) → IsModeIn n m → IsBelow (owned m)
-  owned_below Plain h = tt
-  owned_below (Owner o) h = h
+  exactly : {T : Type 0} (facts : List ℕ) (nodes : List (Option ℕ)) → (T → AllByRecursion IsBelow nodes)
+      → (AllByRecursion IsBelow nodes → T) → T ↔ IsPartBelow n r (part_of facts nodes)
+  exactly facts nodes to back = (
+    (λ h. record { nodes = All-from_recursion IsBelow nodes (to h); records = All-nil (λ o. IfSome o (λ x. x < r)) }),
+    (λ h. back (recursion_from_All IsBelow nodes h.nodes)),
+  )
 
-  part_below : (facts : List ℕ) (nodes : List (Option ℕ)) → AllByRecursion IsBelow nodes
-      → IsPartBelow n r (part_of facts nodes)
-  part_below facts nodes h =
-      record { nodes = All-from_recursion IsBelow nodes h; records = All-nil (λ o. IfSome o (λ x. x < r)) }
+  mode_exactly : (m : Mode) → IsModeIn n m ↔ IsBelow (owned m)
+  mode_exactly Plain = (λ h. h, λ h. h)
+  mode_exactly (Owner o) = (λ h. h, λ h. h)
 
-  node_below : (node : Node) → IsNodeIn n node → IsPartBelow n r (node_part node)
-  node_below (Leaf k) h = part_below _ [] tt
-  node_below (Internal k left right) h = part_below _ (Some left.node ∷ Some right.node ∷ []) (h.0, (h.1, tt))
+  node_exactly : (node : Node) → IsNodeIn n node ↔ IsPartBelow n r (node_part node)
+  node_exactly (Leaf k) = exactly _ _ (λ h. tt) (λ h. tt)
+  node_exactly (Internal k left right) = exactly _ _ (λ h. (h.0, (h.1, tt))) (λ h. (h.0, h.1.0))
 
-  path_below : (facts : List ℕ) (p : Path) (more : List (Option ℕ)) → IsPathIn n p → AllByRecursion IsBelow more
-      → IsPartBelow n r (path_part facts p more)
-  path_below facts p more h rest =
-      part_below facts (Some p.ancestor ∷ Some p.successor ∷ Some p.parent ∷ more) (h.0, (h.1, (h.2, rest)))
+  -- a path and the leaf l, or the leaf that a mode owns
+  leaf_exactly : (facts : List ℕ) (p : Path) (l : ℕ)
+      → IsPathIn n p × (l < n) ↔ IsPartBelow n r (path_part facts p (Some l ∷ []))
+  leaf_exactly facts p l =
+      exactly _ _ (λ h. (h.0.0, (h.0.1, (h.0.2, (h.1, tt))))) (λ h. ((h.0, h.1.0, h.1.1.0), h.1.1.1.0))
 
-  place_below : (place : NatMitLoc) → IsPlaceIn n place → IsPartBelow n r (place_part place)
-  place_below (Begin m) h = part_below _ (owned m ∷ []) (owned_below m h, tt)
-  place_below (Down p l t m) h = path_below _ p (Some l ∷ owned m ∷ []) h.0 (h.1, (owned_below m h.2, tt))
-  place_below (Put p l) h = path_below _ p (Some l ∷ []) h.0 (h.1, tt)
-  place_below (Flag p l) h = path_below _ p (Some l ∷ []) h.0 (h.1, tt)
-  place_below (Look p l) h = path_below _ p (Some l ∷ []) h.0 (h.1, tt)
-  place_below (CleanRead p m) h = path_below _ p (owned m ∷ []) h.0 (owned_below m h.1, tt)
-  place_below (Tag p d m) h = path_below _ p (owned m ∷ []) h.0 (owned_below m h.1, tt)
-  place_below (Sibling p d m) h = path_below _ p (owned m ∷ []) h.0 (owned_below m h.1, tt)
-  place_below (Swing a s f x m) h =
-      part_below _ (Some a ∷ Some s ∷ Some x ∷ owned m ∷ []) (h.0, (h.1, (h.2, (owned_below m h.3, tt))))
+  owner_exactly : (facts : List ℕ) (p : Path) (m : Mode)
+      → IsPathIn n p × IsModeIn n m ↔ IsPartBelow n r (path_part facts p (owned m ∷ []))
+  owner_exactly facts p m = let mode = mode_exactly m in
+      exactly _ _ (λ h. (h.0.0, (h.0.1, (h.0.2, (mode.0 h.1, tt)))))
+      (λ h. ((h.0, h.1.0, h.1.1.0), mode.1 h.1.1.1.0))
 
-  held_below : (place : Option NatMitLoc) → IfSome place (IsPlaceIn n) → IsPartBelow n r (held_part place)
-  held_below None h = part_below [] [] tt
-  held_below (Some place) h = place_below place h
+  place_exactly : (place : NatMitLoc) → IsPlaceIn n place ↔ IsPartBelow n r (place_part place)
+  place_exactly (Begin m) = let mode = mode_exactly m in exactly _ _ (λ h. (mode.0 h, tt)) (λ h. mode.1 h.0)
+  place_exactly (Down p l t m) = let mode = mode_exactly m in
+      exactly _ _ (λ h. (h.0.0, (h.0.1, (h.0.2, (h.1, (mode.0 h.2, tt))))))
+      (λ h. ((h.0, h.1.0, h.1.1.0), h.1.1.1.0, mode.1 h.1.1.1.1.0))
+  place_exactly (Put p l) = leaf_exactly _ p l
+  place_exactly (Flag p l) = leaf_exactly _ p l
+  place_exactly (Look p l) = leaf_exactly _ p l
+  place_exactly (CleanRead p m) = owner_exactly _ p m
+  place_exactly (Tag p d m) = owner_exactly _ p m
+  place_exactly (Sibling p d m) = owner_exactly _ p m
+  place_exactly (Swing a s f x m) = let mode = mode_exactly m in
+      exactly _ _ (λ h. (h.0, (h.1, (h.2, (mode.0 h.3, tt))))) (λ h. (h.0, h.1.0, h.1.1.0, mode.1 h.1.1.1.0))
 
-  -- ---- and back
+  held_exactly : (place : Option NatMitLoc) → IfSome place (IsPlaceIn n) ↔ IsPartBelow n r (held_part place)
+  held_exactly None = exactly _ _ (λ h. tt) (λ h. tt)
+  held_exactly (Some place) = place_exactly place
 
-  mode_in : (m : Mode) → IsBelow (owned m) → IsModeIn n m
-  mode_in Plain h = tt
-  mode_in (Owner o) h = h
+-- ---- a memory and the places held
 
-  node_in : (node : Node) → IsPartBelow n r (node_part node) → IsNodeIn n node
-  node_in (Leaf k) h = tt
-  node_in (Internal k left right) h =
-      let each = recursion_from_All IsBelow (Some left.node ∷ Some right.node ∷ []) h.nodes in (each.0, each.1.0)
-
-  path_in : (p : Path) (more : List (Option ℕ))
-      → All IsBelow (Some p.ancestor ∷ Some p.successor ∷ Some p.parent ∷ more)
-      → IsPathIn n p × AllByRecursion IsBelow more
-  path_in p more h =
-      let each = recursion_from_All IsBelow (Some p.ancestor ∷ Some p.successor ∷ Some p.parent ∷ more) h in
-      ((each.0, each.1.0, each.1.1.0), each.1.1.1)
-
-  place_in : (place : NatMitLoc) → IsPartBelow n r (place_part place) → IsPlaceIn n place
-  place_in (Begin m) h = mode_in m (recursion_from_All IsBelow (owned m ∷ []) h.nodes).0
-  place_in (Down p l t m) h =
-      let each = path_in p (Some l ∷ owned m ∷ []) h.nodes in (each.0, each.1.0, mode_in m each.1.1.0)
-  place_in (Put p l) h = let each = path_in p (Some l ∷ []) h.nodes in (each.0, each.1.0)
-  place_in (Flag p l) h = let each = path_in p (Some l ∷ []) h.nodes in (each.0, each.1.0)
-  place_in (Look p l) h = let each = path_in p (Some l ∷ []) h.nodes in (each.0, each.1.0)
-  place_in (CleanRead p m) h = let each = path_in p (owned m ∷ []) h.nodes in (each.0, mode_in m each.1.0)
-  place_in (Tag p d m) h = let each = path_in p (owned m ∷ []) h.nodes in (each.0, mode_in m each.1.0)
-  place_in (Sibling p d m) h = let each = path_in p (owned m ∷ []) h.nodes in (each.0, mode_in m each.1.0)
-  place_in (Swing a s f x m) h =
-      let each = recursion_from_All IsBelow (Some a ∷ Some s ∷ Some x ∷ owned m ∷ []) h.nodes in
-      (each.0, each.1.0, each.1.1.0, mode_in m each.1.1.1.0)
-
-  held_in : (place : Option NatMitLoc) → IsPartBelow n r (held_part place) → IfSome place (IsPlaceIn n)
-  held_in None h = tt
-  held_in (Some place) h = place_in place h
-
+-- the parts of a memory and of places in range are in range
 pub parts_in_range : (memory : NatMitMem) (held : List (Option NatMitLoc)) → IsInRange memory
     → All (λ place. IfSome place (IsPlaceInRange memory)) held → ArePartsInRange 2 (natmit_parts memory held)
 parts_in_range memory held h places =
     let n = length memory.nodes in
-    let same : length (map node_part memory.nodes) ≡ n = length-map memory.nodes node_part in
+    let same = length-map memory.nodes node_part in
     let first = h.first_nodes in
     record {
       fixed_in_range = omega arith;
-      nodes = all_below node_part (IsNodeIn n) n 0 _ _ same refl (node_below n 0) memory.nodes h.nodes;
+      nodes = all_below node_part (IsNodeIn n) n 0 _ _ same refl (λ a. (node_exactly n 0 a).0) memory.nodes h.nodes;
       records = All-nil (IsPartBelow (length (map node_part memory.nodes)) 0);
       held =
-          all_below held_part (λ place. IfSome place (IsPlaceIn n)) n 0 _ _ same refl (held_below n 0) held places;
+          all_below held_part (λ place. IfSome place (IsPlaceIn n)) n 0 _ _ same refl (λ a. (held_exactly n 0 a).0)
+          held places;
     }
 
+-- and only those
 pub values_in_range : (memory : NatMitMem) (held : List (Option NatMitLoc))
     → ArePartsInRange 2 (natmit_parts memory held) → IsInRange memory
     × All (λ place. IfSome place (IsPlaceInRange memory)) held
 values_in_range memory held h =
     let n = length memory.nodes in
-    let same : length (map node_part memory.nodes) ≡ n = length-map memory.nodes node_part in
+    let same = length-map memory.nodes node_part in
     let first = h.fixed_in_range in (
       record {
         first_nodes = omega arith;
-        nodes = all_in node_part (IsNodeIn n) n 0 _ _ same refl (node_in n 0) memory.nodes h.nodes;
+        nodes = all_in node_part (IsNodeIn n) n 0 _ _ same refl (λ a. (node_exactly n 0 a).1) memory.nodes h.nodes;
       },
-      all_in held_part (λ place. IfSome place (IsPlaceIn n)) n 0 _ _ same refl (held_in n 0) held h.held,
+      all_in held_part (λ place. IfSome place (IsPlaceIn n)) n 0 _ _ same refl (λ a. (held_exactly n 0 a).1) held
+          h.held,
     )
+
+-- ---- what is in range stays so where there are more nodes
+
+below_more : (n more : ℕ) → n ≤ more → (x : Option ℕ) → IfSome x (λ y. y < n) → IfSome x (λ y. y < more)
+below_more n more le None h = tt
+below_more n more le (Some x) h = omega arith
+
+module _ (n more : ℕ) (le : n ≤ more) where
+  part_more : (p : Part) → IsPartBelow n 0 p → IsPartBelow more 0 p
+  part_more p h = record { nodes = All-weaker _ _ (below_more n more le) p.nodes h.nodes; records = h.records }
+
+  -- a node stays in range
+  pub node_more : (node : Node) → IsNodeIn n node → IsNodeIn more node
+  node_more node h = (node_exactly more 0 node).1 (part_more _ ((node_exactly n 0 node).0 h))
+
+  -- a place stays in range
+  pub place_more : (place : NatMitLoc) → IsPlaceIn n place → IsPlaceIn more place
+  place_more place h = (place_exactly more 0 place).1 (part_more _ ((place_exactly n 0 place).0 h))

@@ -1,24 +1,12 @@
 -- The machine keeps its numbers in range and its pairings, and begins with a memory that keeps search order.
-use Rattle.std.specs.Prelude.{length}
-use Rattle.tree_machine.specs.declared.machine.Outcome.{Outcome}
-use Rattle.tree_machine.specs.declared.machine.Outcome.TheVariants.{Goes, Replies, Astray}
-use Rattle.tree_machine.specs.Rules.{AreLawful, IsOutcomeInRange}
-use Rattle.natmit.specs.declared.memory.NatMitMem.{NatMitMem}
-use Rattle.natmit.specs.declared.place.NatMitLoc.{NatMitLoc}
+use Rattle.tree_machine.specs.Rules.{AreLawful}
 use Rattle.natmit.specs.declared.machine.NatMit.{NatMit}
-use Rattle.natmit.specs.Table.{act}
 use Rattle.natmit.specs.NatMitRules.{natmit_rules}
 use Rattle.natmit.specs.Laws.Astray.{act_leaves}
 use Rattle.natmit.specs.Laws.Initial.{initial_in_range, initial_ordered}
 use Rattle.natmit.specs.Laws.Pairs.{natmit_pairs_lawful}
-use Rattle.natmit.specs.Laws.Range.{IsOutcomeIn, place_more}
+use Rattle.natmit.specs.Laws.PartsRange.{place_more}
 use Rattle.natmit.specs.Laws.RangeSteps.{act_kept}
-
-outcome_in_range : (machine : NatMit) (memory : NatMitMem) (outcome : Outcome NatMitLoc)
-    → IsOutcomeIn (length memory.nodes) outcome → IsOutcomeInRange (natmit_rules machine) memory outcome
-outcome_in_range machine memory (Goes place) h = h
-outcome_in_range machine memory (Replies reply) h = h
-outcome_in_range machine memory Astray h = h
 
 pub natmit_lawful : (machine : NatMit) → AreLawful (natmit_rules machine)
 natmit_lawful machine = record {
@@ -26,12 +14,9 @@ natmit_lawful machine = record {
   initial_ordered = initial_ordered;
   first_in_range = λ _ _ _. tt;
   act_in_range = λ op place memory h at. (act_kept memory h machine op place at).memory_in;
-  outcome_in_range =
-      λ op place memory h at. outcome_in_range machine (act machine op place memory).0 (act machine op place memory).1
-      (act_kept memory h machine op place at).outcome_in;
+  outcome_in_range = λ op place memory h at. (act_kept memory h machine op place at).outcome_in;
   others_in_range =
-      λ op place other memory h at held. place_more (length memory.nodes) (length (act machine op place memory).0.nodes)
-      (act_kept memory h machine op place at).nodes other held;
+      λ op place other memory h at held. place_more _ _ (act_kept memory h machine op place at).nodes other held;
   astray_unchanged = λ op place memory. act_leaves memory machine op place;
   pairs_lawful = natmit_pairs_lawful machine;
 }

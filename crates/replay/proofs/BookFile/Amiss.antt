@@ -1,6 +1,5 @@
 -- What a step that is made in place of a parent's own says of its line.
-use Rattle.std.proofs.Common.{◌≡◌, ℕ, ◌+◌, ◌≤◌, inl, inr, Option, None, Some, List, length, sym, ap, ◌∙◌}
-use Rattle.std.proofs.Common.{subst}
+use Rattle.std.proofs.Common.{◌≡◌, ℕ, ◌+◌, ◌≤◌, inl, inr, Option, None, Some, List, length, sym, ◌∙◌}
 use Rattle.sched_program.specs.Program.{Program, IsWithinLimits}
 use Rattle.tree_machine.specs.Rules.{Rules, AreLawful, AreFormsExact}
 use Rattle.tree_machine.specs.Step.{step}
@@ -28,7 +27,7 @@ module _ {Machine Memory Place Form : Type 0} (rules : Rules Memory Place) (prog
 
   -- there is no such parent
   pub no_parent : count ≤ line.parent → IsAmiss rules program states line (Parent (count + 2))
-  no_parent many = inl (ap (λ n. Parent (n + 2)) counted, subst (λ n. n ≤ line.parent) counted many)
+  no_parent many = inl (rw counted, rw (← counted) many)
 
   module _ (c : State Machine Memory Place Form) (stands : StandsForEntry rules program lines line.parent c) where
     -- the thread has no step
@@ -37,13 +36,8 @@ module _ {Machine Memory Place Form : Type 0} (rules : Rules Memory Place) (prog
         let w = stands states so in
         let fits = each_fits rules program lawful limits lines states so line.parent w.0 w.1 in
         inr (inl (
-          ap (λ n. Step (n + 2)) counted,
-          (
-            w.0,
-            w.1,
-            stuck_there rules program lawful limits form_of forms w.0 c fits w.2.fits w.2.alike line.thread
-                none,
-          ),
+          rw counted,
+          (w.0, w.1, stuck_there rules program lawful limits form_of forms w.0 c fits w.2.fits w.2.alike _ none),
         ))
 
     module _ (n : State Machine Memory Place Form) (leads : step rules program c line.thread ≡ Some n) where
@@ -67,17 +61,10 @@ module _ {Machine Memory Place Form : Type 0} (rules : Rules Memory Place) (prog
       pub step_passes : (label : List ℕ) → label ≡ named_by code form_of n → IsShown rules program n line.order
           → (u : State Machine Memory Place Form) × Tells rules program states line u
           × (label ≡ named_by code form_of u)
-      step_passes label labelled shown =
-          let u = there in (u.0, (u.1, u.2 line.order shown), labelled ∙ u.4)
+      step_passes label labelled shown = (there.0, (there.1, there.2 line.order shown), labelled ∙ there.4)
 
       -- or does not
       pub step_amiss : (fault : CheckFault) → IsUnshown rules program n line.order (count + 2) fault
           → IsAmiss rules program states line fault
       step_amiss fault unshown =
-          let u = there in
-          inr (inr (
-            u.0,
-            u.1,
-            subst (λ k. IsUnshown rules program u.0 line.order (k + 2) fault) counted
-                (u.3 line.order (count + 2) fault unshown),
-          ))
+          inr (inr (there.0, there.1, rw (← counted) (there.3 line.order (count + 2) fault unshown)))

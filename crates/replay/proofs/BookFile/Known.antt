@@ -1,9 +1,8 @@
 -- What labels tell of alike states.
-use Rattle.std.proofs.Common.{◌≡◌, ℕ, suc, ◌+◌, ◌<◌, ◌≤◌, inl, inr, Some, Option, List, length, Contains, refl, sym, ap}
-use Rattle.std.proofs.Common.{◌∙◌}
-use Rattle.std.proofs.Common.{arith, slice_get, subst}
+use Rattle.std.proofs.Common.{◌≡◌, ℕ, suc, ◌+◌, ◌<◌, ◌≤◌, inl, inr, Some, Option, List, length, Contains, refl}
+use Rattle.std.proofs.Common.{arith, slice_get}
 use Rattle.std.proofs.lemmas.Bool.{cases_lt}
-use Rattle.std.proofs.lemmas.Option.{same_Some, slice_get_within}
+use Rattle.std.proofs.lemmas.Option.{slice_get_within}
 use Rattle.lin.proofs.Lists.{Contains-slice_get, slice_get-Contains}
 use Rattle.sched_program.specs.Program.{Program, IsWithinLimits}
 use Rattle.tree_machine.specs.Rules.{Rules, AreLawful, AreFormsExact}
@@ -56,8 +55,7 @@ module _ {Machine Memory Place Form : Type 0} (rules : Rules Memory Place) (prog
       let w = alike_step rules s c lawful stands.alike program t u leads in
       let u_fits = machine.step_fits s u t fits leads in
       let v_fits = machine.step_fits c w.0 t stands.fits w.1 in
-      subst (λ l. Contains labels l)
-      (sym (one_label rules program lawful limits form_of forms u w.0 u_fits v_fits w.2 code)) (known t w.0 w.1)
+      rw (one_label rules program lawful limits form_of forms u w.0 u_fits v_fits w.2 code) (known t w.0 w.1)
 
   -- .. and those of the next one too
   pub known_next : (i : ℕ) (c : State Machine Memory Place Form) → StandsForEntry rules program lines i c
@@ -67,13 +65,11 @@ module _ {Machine Memory Place Form : Type 0} (rules : Rules Memory Place) (prog
       elim (cases_lt j i) [
         | inl l ↦ so states replayed j r l at
         | inr ge ↦ (
-            let same_place : j ≡ i = omega arith in
+            let place : j ≡ i = omega arith in
             let w = stands states replayed in
-            let here : slice_get states i ≡ Some r = ap (slice_get states) (sym same_place) ∙ at in
-            let same : w.0 ≡ r = same_Some w.0 r (sym w.1 ∙ here) in
+            let same : r ≡ w.0 = cc (w.1) in
             let fits : Fits rules program r = each_fits rules program lawful limits lines states replayed j r at in
-            twin_known i r c fits
-            (subst (λ (v : State Machine Memory Place Form). StandsFor rules program i v c) same w.2) known)
+            twin_known i r c fits (rw same w.2) known)
       ]
 
   module _ (readable : IsInjective code) (kept : AreLabelsOf rules program label lines labels) where
@@ -88,7 +84,7 @@ module _ {Machine Memory Place Form : Type 0} (rules : Rules Memory Place) (prog
         → IsAlikeToOneOf (AreStatesAlike rules) states s
     known_alike s fits has =
         let w = slice_get-Contains labels (label s) has in
-        let r = get-map label states w.0 (label s) (ap (λ ls. slice_get ls w.0) (sym kept.labelled) ∙ w.1) in
+        let r = get-map label states w.0 (label s) (rw (← kept.labelled) w.1) in
         let r_fits = fit w.0 r.0 r.1 in (
           w.0,
           r.0,
@@ -106,7 +102,7 @@ module _ {Machine Memory Place Form : Type 0} (rules : Rules Memory Place) (prog
         let same : label among.1 ≡ label s =
         one_label rules program lawful limits form_of forms among.1 s (fit among.0 among.1 among.2) fits among.3 code in
         Contains-slice_get labels among.0 (label s)
-        (ap (λ ls. slice_get ls among.0) kept.labelled ∙ map-get label states among.0 among.1 among.2 ∙ ap Some same)
+        (rw (kept.labelled, ← same) (map-get label states among.0 among.1 among.2))
 
     -- a step that a line has leads to the state of the line's own entry, whose label is known
     pub line_known : (k : ℕ) (line : BookLine) → slice_get lines k ≡ Some line
@@ -119,19 +115,14 @@ module _ {Machine Memory Place Form : Type 0} (rules : Rules Memory Place) (prog
         let less : k < length lines = slice_get_within lines k line at in
         let own = get_at states (suc k) (omega arith) in
         let v = line_of rules program lines states kept.replayed k (omega arith) own.0 own.1 in
-        let own_line : v.0 ≡ line = same_Some v.0 line (sym v.1 ∙ at) in
-        let by : IsStepBy rules program states (suc k) line own.0 =
-        subst (λ (l : BookLine). IsStepBy rules program states (suc k) l own.0) own_line v.2 in
-        let parent : w.0 ≡ by.parent = same_Some w.0 by.parent (sym w.1 ∙ by.at) in
+        let own_line : v.0 ≡ line = cc (v.1) in
+        let by : IsStepBy rules program states (suc k) line own.0 = rw own_line at v.2 in
         let u = step_there rules program lawful limits form_of forms w.0 c (fit line.parent w.0 w.1) w.2.fits w.2.alike
         line.thread n leads in
-        let goes : step rules program w.0 line.thread ≡ Some own.0 =
-        ap (λ (s : State Machine Memory Place Form). step rules program s line.thread) parent ∙ by.step in
-        let there : own.0 ≡ u.0 = same_Some own.0 u.0 (sym goes ∙ u.1) in
+        let there : u.0 ≡ own.0 = cc (u.1, w.1) in
         Contains-slice_get labels (suc k) (label n)
-        (ap (λ ls. slice_get ls (suc k)) kept.labelled ∙ map-get label states (suc k) own.0 own.1
-        ∙ ap (λ (s : State Machine Memory Place Form). Some (label s)) there
-        ∙ ap Some (sym (one_label rules program lawful limits form_of forms n u.0 u.3 u.2 u.4 code)))
+        (rw (kept.labelled, one_label rules program lawful limits form_of forms n u.0 u.3 u.2 u.4 code, there)
+        (map-get label states (suc k) own.0 own.1))
 
     -- a step of the next entry's state is not known
     pub open_next : (i : ℕ) (c : State Machine Memory Place Form) → StandsForEntry rules program lines i c
@@ -154,8 +145,7 @@ module _ {Machine Memory Place Form : Type 0} (rules : Rules Memory Place) (prog
               out.0,
               u.0,
               u.1,
-              λ among. out.3 (subst (λ l. Contains labels l)
-                  (sym (one_label rules program lawful limits form_of forms out.1 u.0 u.3 u.2 u.4 code))
+              λ among. out.3 (rw (one_label rules program lawful limits form_of forms out.1 u.0 u.3 u.2 u.4 code)
                   (alike_known u.0 u.2 among)),
             );
             first = (λ j r below at out_of_r. out_of_r.3
@@ -189,10 +179,8 @@ pub no_more_threads : {Machine Memory Place Form : Type 0} (rules : Rules Memory
     → length program.threads ≤ n
     → ((t : ℕ) (next : State Machine Memory Place Form) → t < n → step rules program s t ≡ Some next
     → Contains labels (label_of next)) → AreStepsKnown rules program label_of labels s
-no_more_threads {Machine} {Memory} {Place} {Form} rules program lawful limits label_of labels s n many so t next leads =
-    let less : t < length program.threads =
-    (is_machine {Machine = Machine} {Form = Form} rules program lawful limits).is_thread s next t leads in
-    so t next (omega arith) leads
+no_more_threads rules program lawful limits label_of labels s n many so t next leads =
+    so t next (omega (arith, (is_machine rules program lawful limits).is_thread s next t leads)) leads
 
 -- one more thread was tried
 pub one_more_thread : {Machine Memory Place Form : Type 0} (rules : Rules Memory Place) (program : Program)
@@ -206,5 +194,5 @@ pub one_more_thread : {Machine Memory Place Form : Type 0} (rules : Rules Memory
 one_more_thread rules program label_of labels s n last so t next less leads =
     elim (cases_lt t n) [
       | inl l ↦ so t next l leads
-      | inr ge ↦ (let e : t ≡ n = omega arith in last next (ap (step rules program s) (sym e) ∙ leads))
+      | inr ge ↦ (let e : t ≡ n = omega arith in last next (rw (← e) leads))
     ]

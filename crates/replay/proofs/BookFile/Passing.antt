@@ -1,5 +1,5 @@
 -- Lines that pass show that every schedule reaches a correct state.
-use Rattle.std.proofs.Common.{◌≡◌, ℕ, Option, Some, List, [], ◌∷◌, sym, ◌∙◌, slice_get, subst}
+use Rattle.std.proofs.Common.{◌≡◌, ℕ, Option, Some, List, [], ◌∷◌, sym, ◌∙◌, slice_get}
 use Rattle.sched_program.specs.Program.{Program, IsWithinLimits}
 use Rattle.tree_machine.specs.Rules.{Rules, AreLawful, AreFormsExact}
 use Rattle.tree_machine.specs.Alike.{AreStatesAlike}
@@ -7,7 +7,6 @@ use Rattle.tree_machine.specs.Step.{start, Fits}
 use Rattle.tree_machine.specs.declared.state.State.{State}
 use Rattle.tree_machine.proofs.Alike.{alike_step, alike_history, alike_ordered}
 use Rattle.tree_machine.proofs.Forms.{alike_turned, alike_through}
-use Rattle.lin.specs.Linearization.{IsLinearization}
 use Rattle.replay.specs.Schedule.{StepMachine, IsMachine}
 use Rattle.replay.specs.Findings.{machine_of}
 use Rattle.replay.specs.Closed.{AreClosed}
@@ -46,7 +45,7 @@ module _ {Machine Memory Place Form : Type 0} (rules : Rules Memory Place) (prog
     alike_correct r s alike correct = (
       sym alike.astray ∙ correct.0,
       alike_ordered rules r s lawful alike correct.1,
-      (correct.2.0, subst (λ h. IsLinearization program h correct.2.0) (alike_history rules r s alike) correct.2.1),
+      (correct.2.0, rw (← alike_history rules r s alike) correct.2.1),
     )
 
     -- states that fit and are alike

@@ -1,7 +1,6 @@
 -- Labels of which equal ones are stored once.
-use Rattle.std.proofs.Common.{◌≡◌, ◌↔◌, ℕ, zero, suc, ◌+◌, ◌<◌, ◌≤◌, inl, inr, get_or, Bool, true, false, cond, Some}
+use Rattle.std.proofs.Common.{◌≡◌, ◌↔◌, ℕ, zero, suc, ◌<◌, ◌≤◌, inl, inr, get_or, Bool, true, false, cond, Some}
 use Rattle.std.proofs.Common.{List, [], ◌∷◌, ◌++◌, length, append-nil, Contains, refl, sym, ap, ◌∙◌, arith, slice_get}
-use Rattle.std.proofs.Common.{subst}
 use Rattle.std.specs.List.{list_any}
 use Rattle.std.specs.Cmp.{IsEquivalence}
 use Rattle.std.proofs.lemmas.List.{length-append, get_or_append_left, map-append}
@@ -37,18 +36,15 @@ module _ (distinct tail : List (List ℕ)) (places : List ℕ) (label : List ℕ
   placed : ArePlaced (distinct ++ tail) (places ++ place ∷ [])
   placed = record {
     within = (λ i p there. last_item_or (λ _ (q : ℕ). q < length (distinct ++ tail)) places place
-        (λ j q here. let less : q < length distinct = so.within j q here in
-        let l : length (distinct ++ tail) ≡ length distinct + length tail = length-append distinct tail in omega arith)
+        (λ j q here. omega (arith, so.within j q here, length-append distinct tail))
         (slice_get_within (distinct ++ tail) place label at) i p there);
-    used = (λ l has. subst (λ ls. Contains ls l) (sym seen)
+    used = (λ l has. rw seen
         (elim (Contains-append_cases distinct tail l has) [
           | inl h ↦ Contains-append_left (labels_at distinct places) (label ∷ []) l (so.used l h)
           | inr h ↦ Contains-append_right (labels_at distinct places) (label ∷ []) l
               (Contains-slice_get (label ∷ []) 0 l (ap Some (sym (only l h))))
         ]));
-    bounded = (let a : length (distinct ++ tail) ≡ length distinct + length tail = length-append distinct tail in
-        let b : length (places ++ place ∷ []) ≡ length places + 1 = length-append places (place ∷ []) in
-        let c : length distinct ≤ length places = so.bounded in omega arith);
+    bounded = omega (arith, length-append distinct tail, length-append places (place ∷ []), so.bounded);
   }
 
 only_one : (label l : List ℕ) → Contains (label ∷ []) l → l ≡ label
@@ -73,8 +69,8 @@ label_put distinct more places label place there is so at = by there is
     behind : (tail : List (List ℕ)) → ((l : List ℕ) → Contains tail l → l ≡ label) → length tail ≤ 1
         → distinct ++ tail ≡ more → Put more
     behind tail only one same =
-        let here : slice_get (distinct ++ tail) place ≡ Some label = ap (λ ls. slice_get ls place) same ∙ at in
-        subst Put same (
+        let here : slice_get (distinct ++ tail) place ≡ Some label = rw same at in
+        rw (← same) (
           placed distinct tail places label place so here only one,
           seen distinct tail places label place so here only one,
         )

@@ -1,7 +1,6 @@
 -- The way to a state that lines tell, as it is gone back.
 use Rattle.std.proofs.Common.{◌≡◌, ℕ, zero, suc, ◌+◌, ◌-◌, ◌<◌, ◌≤◌, Some, List, [], ◌∷◌, ◌++◌, length, reverse}
-use Rattle.std.proofs.Common.{refl, sym, ap, ◌∙◌, arith, slice_get, subst}
-use Rattle.std.specs.Option.{option_and_then}
+use Rattle.std.proofs.Common.{refl, sym, ◌∙◌, arith, slice_get}
 use Rattle.std.proofs.lemmas.List.{reverse-append, length_push}
 use Rattle.std.proofs.lemmas.Option.{same_Some, slice_get_within}
 use Rattle.sched_program.specs.Program.{Program}
@@ -30,36 +29,24 @@ module _ {Machine Memory Place Form : Type 0} (rules : Rules Memory Place) (prog
       → (k : ℕ) (s : State Machine Memory Place Form) → slice_get states (length before + k) ≡ Some s
       → (line : BookLine) × (slice_get lines k ≡ Some line) × IsStepBy states (length before + k) line s
   step_behind before [] states so k s at =
-      absurd (let same : states ≡ before = so in
-      let l : length before + k < length before =
-      slice_get_within before (length before + k) s
-      (subst (λ (b : List (State Machine Memory Place Form)). slice_get b (length before + k) ≡ Some s) same at) in
-      omega arith)
+      absurd (omega (arith, slice_get_within before (length before + k) s (rw so at at)))
   step_behind before (line ∷ rest) states so zero s at =
-      let state : State Machine Memory Place Form = so.0 in
-      let reached : Reaches rules program before line state = so.1.0 in
-      let longer : List (State Machine Memory Place Form) = before ++ state ∷ [] in
-      let there : slice_get states (length before + 0) ≡ Some state =
-      front rules program longer rest states so.2 (length before + 0) state
-      (get-append_right before (state ∷ []) 0 state refl) in
-      let same : state ≡ s = same_Some state s (sym there ∙ at) in
-      let less : line.parent < length before = slice_get_within before line.parent reached.parent reached.at in (
+      let reached : Reaches rules program before line so.0 = so.1.0 in
+      let stays = front rules program (before ++ so.0 ∷ []) rest states so.2 in
+      let there = stays (length before + 0) so.0 (get-append_right before (so.0 ∷ []) 0 so.0 refl) in (
         line,
         refl,
         record {
           parent = reached.parent;
-          at = front rules program longer rest states so.2 line.parent reached.parent
-              (get-append_left before (state ∷ []) line.parent reached.parent reached.at);
-          earlier = omega arith;
-          step = reached.step ∙ ap (λ (v : State Machine Memory Place Form). Some v) same;
+          at = stays line.parent reached.parent (get-append_left before (so.0 ∷ []) _ _ reached.at);
+          earlier = omega (arith, slice_get_within before line.parent reached.parent reached.at);
+          step = cc;
         },
       )
   step_behind before (line ∷ rest) states so (suc k) s at =
       let longer : List (State Machine Memory Place Form) = before ++ so.0 ∷ [] in
-      let one_more : length longer ≡ length before + 1 = length_push before so.0 in
-      let place : length before + suc k ≡ length longer + k = omega arith in
-      let w = step_behind longer rest states so.2 k s (ap (λ n. slice_get states n) (sym place) ∙ at) in
-      (w.0, w.1, subst (λ n. IsStepBy states n w.0 s) (sym place) w.2)
+      let place : length before + suc k ≡ length longer + k = omega (arith, length_push before so.0) in
+      rw place (step_behind longer rest states so.2 k s (rw (← place) at))
 
   -- a way from a state that lines tell leads to the one at an index
   pub record LeadsTo (states : List (State Machine Memory Place Form)) (at : ℕ) (way : List ℕ) (index : ℕ)
@@ -84,10 +71,8 @@ module _ {Machine Memory Place Form : Type 0} (rules : Rules Memory Place) (prog
         → slice_get states (suc k) ≡ Some s
         → (line : BookLine) × (slice_get lines k ≡ Some line) × IsStepBy states (suc k) line s
     line_of k within s at =
-        let place : 1 + k ≡ suc k = omega arith in
-        let w = step_behind (start rules program ∷ []) lines states so.1 k s
-        (ap (λ n. slice_get states n) place ∙ at) in
-        (w.0, w.1, subst (λ n. IsStepBy states n w.0 s) place w.2)
+        let place : suc k ≡ 1 + k = omega arith in
+        rw place (step_behind (start rules program ∷ []) lines states so.1 k s (rw (← place) at))
 
     -- behind the start each state has a line
     pub has_line : (at : ℕ) → 0 < at → (way : List ℕ) (index : ℕ) → LeadsTo states at way index → at - 1 < length lines
@@ -95,8 +80,7 @@ module _ {Machine Memory Place Form : Type 0} (rules : Rules Memory Place) (prog
     has_line (suc k) later way index so_far =
         let within : suc k < length states = slice_get_within states (suc k) so_far.here so_far.is_here in
         let w = line_of k within so_far.here so_far.is_here in
-        let less : k < length lines = slice_get_within lines k w.0 w.1 in
-        let e : suc k - 1 ≡ k = omega arith in rw e less
+        omega (arith, slice_get_within lines k w.0 w.1)
 
     -- one step back along the way
     pub one_back : (at : ℕ) → 0 < at → (noted : List ℕ) (index : ℕ) → LeadsTo states at (reverse noted) index
@@ -106,21 +90,16 @@ module _ {Machine Memory Place Form : Type 0} (rules : Rules Memory Place) (prog
     one_back (suc k) later noted index so_far line is =
         let within : suc k < length states = slice_get_within states (suc k) so_far.here so_far.is_here in
         let w = line_of k within so_far.here so_far.is_here in
-        let e : k ≡ suc k - 1 = omega arith in
-        let there : slice_get lines k ≡ Some line = ap (λ n. slice_get lines n) e ∙ is in
-        let same : w.0 ≡ line = same_Some w.0 line (sym w.1 ∙ there) in
-        let by : IsStepBy states (suc k) line so_far.here =
-        subst (λ (l : BookLine). IsStepBy states (suc k) l so_far.here) same w.2 in
-        let m = machine_of {Machine = Machine} {Form = Form} rules program in (
+        let e : suc k - 1 ≡ k = omega arith in
+        let same : line ≡ w.0 = same_Some line w.0 (sym (rw e at is) ∙ w.1) in
+        let by : IsStepBy states (suc k) line so_far.here = rw same w.2 in (
           by.earlier,
           record {
             here = by.parent;
             there = so_far.there;
             is_here = by.at;
             is_there = so_far.is_there;
-            leads = rw (reverse-append noted (line.thread ∷ []))
-                (ap (λ o. option_and_then (λ (r : State Machine Memory Place Form). run m r (reverse noted)) o)
-                by.step ∙ so_far.leads);
+            leads = rw (reverse-append noted (line.thread ∷ []), by.step) so_far.leads;
           },
         )
 
@@ -130,14 +109,6 @@ module _ {Machine Memory Place Form : Type 0} (rules : Rules Memory Place) (prog
         × (after (machine_of rules program) way ≡ Some s)
     from_start at least way index so_far =
         let zeroth : at ≡ 0 = omega arith in
-        let first : slice_get states 0 ≡ Some (start rules program) =
-        front rules program (start rules program ∷ []) lines states so.1 0 (start rules program) refl in
-        let same : so_far.here ≡ start rules program =
-        same_Some so_far.here (start rules program)
-        (sym so_far.is_here ∙ ap (λ n. slice_get states n) zeroth ∙ first) in (
-          so_far.there,
-          so_far.is_there,
-          subst (λ (v : State Machine Memory Place Form).
-              run (machine_of {Machine = Machine} {Form = Form} rules program) v way ≡ Some so_far.there) same
-              so_far.leads,
-        )
+        let first = front rules program (start rules program ∷ []) lines states so.1 0 (start rules program) refl in
+        let same : start rules program ≡ so_far.here = cc in
+        (so_far.there, so_far.is_there, rw same so_far.leads)

@@ -1,6 +1,6 @@
 -- States that lines describe, one line after the other.
-use Rattle.std.proofs.Common.{◌≡◌, ℕ, zero, suc, ◌+◌, ◌<◌, ◌≤◌, ◌⊎◌, inl, inr, get_or, take, drop, None, Some, Option}
-use Rattle.std.proofs.Common.{List, [], ◌∷◌, ◌++◌, length, refl, sym, ap, ◌∙◌, arith, slice_get, subst}
+use Rattle.std.proofs.Common.{◌≡◌, ℕ, zero, suc, ◌+◌, ◌<◌, ◌≤◌, ◌⊎◌, inl, inr, get_or, take, drop, Some, Option}
+use Rattle.std.proofs.Common.{List, [], ◌∷◌, ◌++◌, length, refl, sym, ap, ◌∙◌, arith, slice_get}
 use Rattle.std.proofs.Math.ListN.{length-map}
 use Rattle.std.proofs.lemmas.List.{drop_more, length_push, length-take-le, map-append, take-append-drop, take_more}
 use Rattle.std.proofs.lemmas.Option.{slice_get_within}
@@ -33,16 +33,15 @@ last_item_or {X} P xs y all last i x at =
     ]
   where
     only : (k : ℕ) → i ≡ length xs + k → slice_get (y ∷ []) k ≡ Some x → P i x
-    only zero e h = let same : y ≡ x = cc in
-        let n : length xs ≡ i = omega arith in subst (λ (v : X). P i v) same (subst (λ j. P j y) n last)
-    only (suc k) e h = absurd (let q : None ≡ Some x = h in cc)
+    only zero e h = let same : x ≡ y = cc in
+        let place : i ≡ length xs = omega arith in rw (place, same) last
+    only (suc k) e h = absurd cc
 
 -- a list before, at and after a place
 split_at : {X : Type 0} (xs : List X) (i : ℕ) (x : X) → i < length xs → x ≡ get_or xs i x
     → xs ≡ take i xs ++ x ∷ drop (i + 1) xs
 split_at xs i x less is =
-    sym (take-append-drop i xs)
-    ∙ ap (λ zs. take i xs ++ zs) (drop_more xs i x less ∙ ap (λ z. z ∷ drop (i + 1) xs) (sym is))
+    sym (take-append-drop i xs) ∙ (λ j. take i xs ++ (drop_more xs i x less ∙ (λ k. sym is k ∷ drop (i + 1) xs)) j)
 
 module _ {Machine Memory Place Form : Type 0} (rules : Rules Memory Place) (program : Program) where
   -- one more line
@@ -50,11 +49,7 @@ module _ {Machine Memory Place Form : Type 0} (rules : Rules Memory Place) (prog
       (states : List (State Machine Memory Place Form)) (state : State Machine Memory Place Form)
       → Continues rules program before lines states → Tells rules program states line state
       → Continues rules program before (lines ++ line ∷ []) (states ++ state ∷ [])
-  continues_push before [] line states state so tells = (
-    state,
-    subst (λ (b : List (State Machine Memory Place Form)). Tells rules program b line state) so tells,
-    ap (λ b. b ++ state ∷ []) so,
-  )
+  continues_push before [] line states state so tells = (state, rw (← so) tells, λ j. so j ++ state ∷ [])
   continues_push before (first ∷ lines) line states state so tells =
       (so.0, so.1, continues_push (before ++ so.0 ∷ []) lines line states state so.2 tells)
 
@@ -64,8 +59,7 @@ module _ {Machine Memory Place Form : Type 0} (rules : Rules Memory Place) (prog
       (states : List (State Machine Memory Place Form)) (fault : CheckFault)
       → Continues rules program before lines states → IsAmiss rules program states line fault
       → FirstAmiss rules program before (lines ++ line ∷ rest) fault
-  amiss_next before [] line rest states fault so amiss =
-      inl (subst (λ (b : List (State Machine Memory Place Form)). IsAmiss rules program b line fault) so amiss)
+  amiss_next before [] line rest states fault so amiss = inl (rw (← so) amiss)
   amiss_next before (first ∷ lines) line rest states fault so amiss =
       inr (so.0, so.1, amiss_next (before ++ so.0 ∷ []) lines line rest states fault so.2 amiss)
 
@@ -78,40 +72,34 @@ module _ {Machine Memory Place Form : Type 0} (rules : Rules Memory Place) (prog
       (states : List (State Machine Memory Place Form)) → Continues rules program before lines states
       → ((i : ℕ) (s : State Machine Memory Place Form) → slice_get before i ≡ Some s → P i s)
       → (i : ℕ) (s : State Machine Memory Place Form) → slice_get states i ≡ Some s → P i s
-  along P next before [] states so all i s at =
-      all i s (let e : states ≡ before = so in
-      subst (λ (b : List (State Machine Memory Place Form)). slice_get b i ≡ Some s) e at)
+  along P next before [] states so all i s at = all i s (rw (← so) at)
   along P next before (line ∷ lines) states so all i s at =
       along P next (before ++ so.0 ∷ []) lines states so.2
       (last_item_or P before so.0 all (next before line so.0 all so.1)) i s at
 
   pub only_start : (P : ℕ → State Machine Memory Place Form → Type 0) (first : State Machine Memory Place Form)
       → P 0 first → (i : ℕ) (s : State Machine Memory Place Form) → slice_get (first ∷ []) i ≡ Some s → P i s
-  only_start P first h zero s at = let e : first ≡ s = cc in subst (λ (v : State Machine Memory Place Form). P 0 v) e h
-  only_start P first h (suc i) s at = absurd (let q : None ≡ Some s = at in cc)
+  only_start P first h = last_item_or P [] first (λ i s at. absurd cc) h
 
   -- the first states stay where they are
   pub front : (before : List (State Machine Memory Place Form)) (lines : List BookLine)
       (states : List (State Machine Memory Place Form)) → Continues rules program before lines states
       → (i : ℕ) (s : State Machine Memory Place Form) → slice_get before i ≡ Some s → slice_get states i ≡ Some s
-  front before [] states so i s at = let e : states ≡ before = so in
-      subst (λ (b : List (State Machine Memory Place Form)). slice_get b i ≡ Some s) (sym e) at
+  front before [] states so i s at = rw so at
   front before (line ∷ lines) states so i s at =
       front (before ++ so.0 ∷ []) lines states so.2 i s (get-append_left before (so.0 ∷ []) i s at)
 
   count_from : (before : List (State Machine Memory Place Form)) (lines : List BookLine)
       (states : List (State Machine Memory Place Form)) → Continues rules program before lines states
       → length states ≡ length before + length lines
-  count_from before [] states so = let e : length states ≡ length before = ap length so in omega arith
+  count_from before [] states so = omega (arith, ap length so)
   count_from before (line ∷ lines) states so =
-      let rest = count_from (before ++ so.0 ∷ []) lines states so.2 in
-      let one : length (before ++ so.0 ∷ []) ≡ length before + 1 = length_push before so.0 in omega arith
+      omega (arith, count_from (before ++ so.0 ∷ []) lines states so.2, length_push before so.0)
 
   -- each line describes one state, and the start is before them
   pub count_states : (lines : List BookLine) (states : List (State Machine Memory Place Form))
       → AreReplayed rules program lines states → length states ≡ length lines + 1
-  count_states lines states so =
-      let all = count_from (start rules program ∷ []) lines states so.1 in omega arith
+  count_states lines states so = omega (arith, count_from (start rules program ∷ []) lines states so.1)
 
   pub count_labels : (label_of : State Machine Memory Place Form → List ℕ) (lines : List BookLine)
       (labels : List (List ℕ)) → AreLabelsOf rules program label_of lines labels → length labels ≡ length lines + 1
@@ -137,11 +125,12 @@ module _ {Machine Memory Place Form : Type 0} (rules : Rules Memory Place) (prog
       steps_bounded =
           along (λ i s. s.steps ≤ i) (λ before line state all tells.
           let reached : Reaches rules program before line state = tells.0 in
-          let up : state.steps ≡ reached.parent.steps + 1 =
-          step_counts rules program reached.parent state line.thread reached.step in
-          let bounded : reached.parent.steps ≤ line.parent = all line.parent reached.parent reached.at in
-          let less : line.parent < length before = slice_get_within before line.parent reached.parent reached.at in
-          omega arith)
+          omega (
+            arith,
+            step_counts rules program reached.parent state line.thread reached.step,
+            all line.parent reached.parent reached.at,
+            slice_get_within before line.parent reached.parent reached.at,
+          ))
           (start rules program ∷ []) lines states so.1
           (only_start (λ i s. s.steps ≤ i) (start rules program) (omega arith))
 
@@ -164,11 +153,8 @@ module _ {Machine Memory Place Form : Type 0} (rules : Rules Memory Place) (prog
       → labels ≡ label ∷ [] → AreLabelsOf rules program label_of [] labels
   labels_start first label labels is shown same made = record {
     states = first ∷ [];
-    replayed = (
-      subst (λ (v : State Machine Memory Place Form). IsShown rules program v []) is shown,
-      ap (λ (v : State Machine Memory Place Form). v ∷ []) is,
-    );
-    labelled = made ∙ ap (λ l. l ∷ []) same;
+    replayed = (rw is at shown, λ j. is j ∷ []);
+    labelled = made ∙ (λ j. same j ∷ []);
   }
 
   module _ (lines : List BookLine) (labels : List (List ℕ)) (i : ℕ) (line : BookLine) (less : i < length lines)
@@ -180,14 +166,13 @@ module _ {Machine Memory Place Form : Type 0} (rules : Rules Memory Place) (prog
         → longer ≡ labels ++ label ∷ [] → AreLabelsOf rules program label_of (take (i + 1) lines) longer
     labels_next label longer tells made =
         let w = tells so.states so.replayed in
-        let more : take i lines ++ line ∷ [] ≡ take (i + 1) lines =
-        sym (take_more lines i line less ∙ ap (λ x. take i lines ++ x ∷ []) (sym is)) in
+        let more : take (i + 1) lines ≡ take i lines ++ line ∷ [] =
+        take_more lines i line less ∙ (λ j. take i lines ++ sym is j ∷ []) in
         record {
           states = so.states ++ w.0 ∷ [];
           replayed = (
             so.replayed.0,
-            subst (λ ls. Continues rules program (start rules program ∷ []) ls (so.states ++ w.0 ∷ [])) more
-                (continues_push rules program (start rules program ∷ []) (take i lines) line so.states w.0
+            rw more (continues_push rules program (start rules program ∷ []) (take i lines) line so.states w.0
                 so.replayed.1 w.1),
           );
           labelled = made ∙ (λ j. so.labelled j ++ w.2 j ∷ []) ∙ sym (map-append label_of so.states (w.0 ∷ []));
@@ -198,17 +183,13 @@ module _ {Machine Memory Place Form : Type 0} (rules : Rules Memory Place) (prog
         ⊎ ((states : List (State Machine Memory Place Form)) → AreReplayed rules program (take i lines) states
         → IsAmiss rules program states line fault)
         → (fault ≡ OutOfMemory) ⊎ IsFirstAmiss Machine Form rules program lines fault
-    amiss_of_next fault h =
-        elim h [
-          | inl l ↦ inl l
-          | inr r ↦ inr (inr (
-            so.replayed.0,
-            subst (λ (ls : List BookLine). FirstAmiss {Machine = Machine} {Form = Form} rules program
-                (start rules program ∷ []) ls fault) (sym (split_at lines i line less is))
-                (amiss_next rules program (start rules program ∷ []) (take i lines) line (drop (i + 1) lines) so.states
-                fault so.replayed.1 (r so.states so.replayed)),
-          ))
-        ]
+    amiss_of_next fault (inl l) = inl l
+    amiss_of_next fault (inr r) = inr (inr (
+      so.replayed.0,
+      rw (split_at lines i line less is)
+          (amiss_next rules program (start rules program ∷ []) (take i lines) line (drop (i + 1) lines) so.states
+          fault so.replayed.1 (r so.states so.replayed)),
+    ))
 
 -- the labels of the first lines are fewer than a file may have
 pub labels_bounded : {Machine Memory Place Form : Type 0} (rules : Rules Memory Place) (program : Program)
@@ -216,18 +197,12 @@ pub labels_bounded : {Machine Memory Place Form : Type 0} (rules : Rules Memory 
     → AreLabelsOf rules program label_of (take i lines) labels → i < length lines → length lines < 2000000
     → length labels < 2000000
 labels_bounded rules program label_of lines labels i so less most =
-    let all : length labels ≡ length (take i lines) + 1 =
-    count_labels rules program label_of (take i lines) labels so in
-    let taken : length (take i lines) ≡ i = length-take-le i lines (omega arith) in
-    omega arith
+    omega (arith, count_labels rules program label_of (take i lines) labels so, length-take-le i lines (omega arith))
 
 -- what is amiss with the start
 pub amiss_at_start : {Machine Memory Place Form : Type 0} (rules : Rules Memory Place) (program : Program)
     (lines : List BookLine) (first : State Machine Memory Place Form) (fault : CheckFault)
     → first ≡ start rules program → (fault ≡ OutOfMemory) ⊎ IsUnshown rules program first [] 2 fault
     → (fault ≡ OutOfMemory) ⊎ IsFirstAmiss Machine Form rules program lines fault
-amiss_at_start {Machine} {Memory} {Place} {Form} rules program lines first fault is h =
-    elim h [
-      | inl l ↦ inl l
-      | inr r ↦ inr (inl (subst (λ (v : State Machine Memory Place Form). IsUnshown rules program v [] 2 fault) is r))
-    ]
+amiss_at_start rules program lines first fault is (inl l) = inl l
+amiss_at_start rules program lines first fault is (inr r) = inr (inl (rw is at r))

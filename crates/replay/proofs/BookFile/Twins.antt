@@ -1,10 +1,8 @@
 -- States that stand in for those that lines tell: their steps are amiss, shown and labelled as those of these.
-use Rattle.std.proofs.Common.{◌≡◌, ℕ, ◌≤◌, inl, inr, Option, None, Some, List, [], ◌∷◌, ◌++◌, map, refl, sym, ap, ◌∙◌}
-use Rattle.std.proofs.Common.{arith, slice_get, subst}
-use Rattle.std.proofs.lemmas.Option.{same_Some}
+use Rattle.std.proofs.Common.{◌≡◌, ℕ, inl, inr, Option, None, Some, List, [], ◌∷◌, ◌++◌, refl, sym, ap, ◌∙◌}
+use Rattle.std.proofs.Common.{arith, slice_get}
 use Rattle.sched_program.specs.Program.{Program, IsWithinLimits}
 use Rattle.sched_program.specs.declared.operation.OpId.{OpId}
-use Rattle.lin.specs.Linearization.{IsLinearization}
 use Rattle.tree_machine.specs.Alike.{AreStatesAlike}
 use Rattle.tree_machine.specs.Flat.{number_code}
 use Rattle.tree_machine.specs.FormCode.{content_code}
@@ -55,17 +53,14 @@ module _ {Machine Memory Place Form : Type 0} (rules : Rules Memory Place) (prog
       where
         by : (o : Option (State Machine Memory Place Form)) → step rules program s t ≡ o → o ≡ None
         by None is = refl
-        by (Some u) is =
-            absurd (let v = alike_step rules s c lawful alike program t u is in
-            let q : None ≡ Some v.0 = sym none ∙ v.1 in cc)
+        by (Some u) is = absurd (let v = alike_step rules s c lawful alike program t u is in cc (v.1))
 
     -- an order that shows the one shows the other, and what it leaves amiss is the same
     well_there : IsWell rules program s → IsWell rules program c
     well_there well = (sym alike.astray ∙ well.0, alike_ordered rules s c lawful alike well.1)
 
     pub shown_there : (order : List OpId) → IsShown rules program s order → IsShown rules program c order
-    shown_there order shown =
-        (well_there shown.0, subst (λ h. IsLinearization program h order) (alike_history rules s c alike) shown.1)
+    shown_there order shown = (well_there shown.0, rw (← alike_history rules s c alike) shown.1)
 
   pub unshown_there : (s c : State Machine Memory Place Form) → Fits rules program s → Fits rules program c
       → AreStatesAlike rules s c → (order : List OpId) (number : ℕ) (fault : CheckFault)
@@ -73,12 +68,11 @@ module _ {Machine Memory Place Form : Type 0} (rules : Rules Memory Place) (prog
   unshown_there s c s_fits c_fits alike order number fault (inl h) =
       let back = alike_turned rules form_of forms program s c s_fits c_fits alike in
       inl (h.0, λ well. h.1 (well_there c s c_fits s_fits back well))
-  unshown_there s c s_fits c_fits alike order number fault (inr h) =
-      inr (
-        h.0,
-        well_there s c s_fits c_fits alike h.1,
-        λ explains. h.2 (subst (λ k. IsLinearization program k order) (sym (alike_history rules s c alike)) explains),
-      )
+  unshown_there s c s_fits c_fits alike order number fault (inr h) = inr (
+    h.0,
+    well_there s c s_fits c_fits alike h.1,
+    λ explains. h.2 (rw (alike_history rules s c alike) explains),
+  )
 
   module _ (lines : List BookLine) (index : ℕ) where
     -- what is read from the label of an entry stands in for its state
@@ -89,13 +83,9 @@ module _ {Machine Memory Place Form : Type 0} (rules : Rules Memory Place) (prog
         → AreStatesAlike rules s twin × ((p : Program) → Fits rules p s → Fits rules p twin) × (twin.steps ≡ 0))
         → StandsForEntry rules program lines index twin
     read_stands_for code labels kept label twin at named states so =
-        let same : kept.states ≡ states =
-        one_continued rules program (start rules program ∷ []) lines kept.states states kept.replayed.1 so.1 in
-        let there : slice_get (map (named_by code form_of) states) index ≡ Some label =
-        ap (λ (xs : List (State Machine Memory Place Form)). slice_get (map (named_by code form_of) xs) index)
-        (sym same)
-        ∙ ap (λ ls. slice_get ls index) (sym kept.labelled) ∙ at in
-        let w = get-map (named_by code form_of) states index label there in
+        let same =
+        one_continued rules program (start rules program ∷ []) lines states kept.states so.1 kept.replayed.1 in
+        let w = get-map (named_by code form_of) states index label (rw (same, ← kept.labelled) at) in
         let fits : Fits rules program w.0 = each_fits rules program lawful limits lines states so index w.0 w.1 in
         let law = named w.0 (numbers_fit rules program w.0 fits) w.2 in (
           w.0,
@@ -112,13 +102,12 @@ module _ {Machine Memory Place Form : Type 0} (rules : Rules Memory Place) (prog
         → StandsForEntry rules program lines index end
     run_stands_for way end leads ends fits states so =
         let w = leads states so in
-        let same : w.0 ≡ end = same_Some w.0 end (sym w.2 ∙ ends) in
-        let bounded : w.0.steps ≤ index = steps_bounded rules program lawful limits lines states so index w.0 w.1 in (
+        let is_end : slice_get states index ≡ Some end = cc (w.1, w.2) in (
           end,
-          w.1 ∙ ap (λ (v : State Machine Memory Place Form). Some v) same,
+          is_end,
           record {
             alike = alike_itself rules form_of forms program end fits;
             fits = fits;
-            steps = subst (λ (v : State Machine Memory Place Form). v.steps ≤ index) same bounded;
+            steps = steps_bounded rules program lawful limits lines states so index end is_end;
           },
         )

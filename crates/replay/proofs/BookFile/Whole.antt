@@ -1,5 +1,5 @@
 -- What the bytes of a book file are refused for: one thing at most, and nothing where they pass.
-use Rattle.std.proofs.Common.{◌≡◌, ◌≢◌, ◌⊎◌, inl, inr, ℕ, ◌∙◌, sym, ap, subst, List}
+use Rattle.std.proofs.Common.{◌≡◌, ◌≢◌, ◌⊎◌, inl, inr, ℕ, ◌∙◌, sym, ap, List}
 use Rattle.sched_program.specs.Program.{Program}
 use Rattle.tree_machine.specs.Rules.{Rules}
 use Rattle.replay.specs.declared.file.line.BookLine.{BookLine}
@@ -8,7 +8,7 @@ use Rattle.replay.proofs.Text.OneReading.{same_book, not_both, same_misformed}
 use Rattle.replay.specs.declared.file.fault.CheckFault.{CheckFault}
 use Rattle.replay.specs.declared.file.fault.CheckFault.TheVariants.{Form, OutOfMemory}
 use Rattle.replay.specs.BookFile.Replays.{IsFirstAmiss}
-use Rattle.replay.specs.BookFile.Checks.{Pass, AreRefused, PassAs, IsRefusedFor}
+use Rattle.replay.specs.BookFile.Checks.{AreRefused, PassAs, IsRefusedFor}
 use Rattle.replay.proofs.BookFile.Exclusive.{one_refusal, pass_not_refused}
 
 module _ (Machine MachineForm : Type 0) {Memory Place : Type 0} (rules : Rules Memory Place) (program : Program)
@@ -19,17 +19,14 @@ module _ (Machine MachineForm : Type 0) {Memory Place : Type 0} (rules : Rules M
   one_refusal_of_bytes f g (inl a) (inr b) = absurd (not_both bytes b.0 a.0 b.1 a.2)
   one_refusal_of_bytes f g (inr a) (inl b) = absurd (not_both bytes a.0 b.0 a.1 b.2)
   one_refusal_of_bytes f g (inr a) (inr b) =
-      let same : b.0 ≡ a.0 = same_book bytes b.0 a.0 b.1 a.1 in
-      one_refusal Machine MachineForm rules program a.0 f g a.2
-      (subst (λ (lines : List BookLine). AreRefused Machine MachineForm rules program lines g) same b.2)
+      one_refusal Machine MachineForm rules program a.0 f g a.2 (rw (same_book bytes a.0 b.0 a.1 b.1) b.2)
 
   pub passing_bytes : (entries : ℕ) (f : CheckFault) → PassAs Machine MachineForm rules program bytes entries
       → IsRefusedFor Machine MachineForm rules program bytes f → ⊥
   passing_bytes entries f pass (inl a) = not_both bytes pass.0 a.0 pass.1 a.2
   passing_bytes entries f pass (inr a) =
-      let same : pass.0 ≡ a.0 = same_book bytes pass.0 a.0 pass.1 a.1 in
-      pass_not_refused Machine MachineForm rules program a.0 f
-      (subst (λ (lines : List BookLine). Pass Machine MachineForm rules program lines) same pass.2) a.2
+      pass_not_refused Machine MachineForm rules program pass.0 f pass.2
+      (rw (same_book bytes pass.0 a.0 pass.1 a.1) a.2)
 
   -- the bytes are not in the form
   pub form_refused : (f : CheckFault) → (f ≡ OutOfMemory) ⊎ IsFormFault bytes f

@@ -1,6 +1,6 @@
 -- A list is cut in one way only at its first element that fails a test.
 use Rattle.std.proofs.Common.{◌≡◌, ◌≢◌, ℕ, ◌+◌, ◌-◌, ◌<◌, List, [], ◌∷◌, ◌++◌, ◌∙◌, length, get_or, take, drop, refl}
-use Rattle.std.proofs.Common.{sym, ap, subst}
+use Rattle.std.proofs.Common.{sym, ap}
 use Rattle.std.proofs.lemmas.List.{take_more, drop_more, take_rest, take-append-drop, append_assoc}
 use Rattle.std.specs.List.{AllByRecursion}
 use Rattle.replay.specs.Text.Files.{ended, AreLines}
@@ -11,13 +11,12 @@ pub same_cut : {A : Type 0} (P : A → Type 0) (front : List A) (x : A) (rest : 
     → front ++ x ∷ rest ≡ other ++ y ∷ more → AllByRecursion P front → ¬ P x → AllByRecursion P other → ¬ P y
     → (front ≡ other) × (x ≡ y) × (rest ≡ more)
 same_cut P [] x rest [] y more e all fails also lacks = (refl, cc, cc)
-same_cut P [] x rest (b ∷ other) y more e all fails also lacks = let same : b ≡ x = cc in
-    absurd (fails (subst P same also.0))
-same_cut P (a ∷ front) x rest [] y more e all fails also lacks = let same : a ≡ y = cc in
-    absurd (lacks (subst P same all.0))
+same_cut P [] x rest (b ∷ other) y more e all fails also lacks = let same : x ≡ b = cc in
+    absurd (fails (rw same also.0))
+same_cut P (a ∷ front) x rest [] y more e all fails also lacks = let same : y ≡ a = cc in
+    absurd (lacks (rw same all.0))
 same_cut P (a ∷ front) x rest (b ∷ other) y more e all fails also lacks =
-    let tails : front ++ x ∷ rest ≡ other ++ y ∷ more = cc in
-    let same = same_cut P front x rest other y more tails all.1 fails also.1 lacks in
+    let same = same_cut P front x rest other y more (cc) all.1 fails also.1 lacks in
     (cc, same.1, same.2)
 
 -- a list that passes the test has no element that fails it
@@ -25,10 +24,8 @@ pub no_cut : {A : Type 0} (P : A → Type 0) (all front : List A) (x : A) (rest 
     → all ≡ front ++ x ∷ rest → AllByRecursion P all → ¬ P x → ⊥
 no_cut P [] [] x rest e passes fails = cc
 no_cut P [] (b ∷ front) x rest e passes fails = cc
-no_cut P (a ∷ all) [] x rest e passes fails = let same : a ≡ x = cc in fails (subst P same passes.0)
-no_cut P (a ∷ all) (b ∷ front) x rest e passes fails =
-    let tails : all ≡ front ++ x ∷ rest = cc in
-    no_cut P all front x rest tails passes.1 fails
+no_cut P (a ∷ all) [] x rest e passes fails = let same : x ≡ a = cc in fails (rw same passes.0)
+no_cut P (a ∷ all) (b ∷ front) x rest e passes fails = no_cut P all front x rest (cc) passes.1 fails
 
 -- nothing is cut in no way
 pub not_nil : {A : Type 0} (front : List A) (x : A) (rest : List A) → [] ≡ front ++ x ∷ rest → ⊥
@@ -48,9 +45,7 @@ same_ended (text ∷ texts) [] e bare also = absurd (not_nil text 10 (ended text
 same_ended (text ∷ texts) (other ∷ others) e bare also =
     let same =
     same_cut (λ b. b ≢ 10) text 10 (ended texts) other 10 (ended others) e bare.0 feed_fails also.0 feed_fails in
-    let first : text ≡ other = same.0 in
-    let rest : texts ≡ others = same_ended texts others same.2 bare.1 also.1 in
-    cc
+    cc (same.0, same_ended texts others same.2 bare.1 also.1)
 
 -- the bytes are lines in one way only
 pub same_lines : (bytes : List ℕ) (texts others : List (List ℕ)) → AreLines bytes texts → AreLines bytes others
@@ -66,17 +61,13 @@ pub all_more : {A : Type 0} (P : A → Type 0) (xs : List A) (i : ℕ) (d : A) �
     → AllByRecursion P (take i xs) → P (get_or xs i d)
     → AllByRecursion P (take (i + 1) xs)
 all_more P xs i d less all here =
-    subst (AllByRecursion P) (sym (take_more xs i d less))
-    (all_append P (take i xs) (get_or xs i d ∷ []) all (here, tt))
+    rw (take_more xs i d less) (all_append P (take i xs) (get_or xs i d ∷ []) all (here, tt))
 
 -- a list is what comes before an element, that element, and what follows it
 pub cut_at : (bytes : List ℕ) (i at : ℕ) → i < length bytes → get_or bytes i 0 ≡ at
     → bytes ≡ take i bytes ++ at ∷ take (length bytes - (i + 1)) (drop (i + 1) bytes)
 cut_at bytes i at less is =
-    let cell : drop i bytes ≡ at ∷ drop (i + 1) bytes =
-    drop_more bytes i 0 less ∙ ap (λ b. b ∷ drop (i + 1) bytes) is in
-    sym (take-append-drop i bytes) ∙ ap (λ rest. take i bytes ++ rest)
-    (cell ∙ ap (λ rest. at ∷ rest) (sym (take_rest bytes (i + 1))))
+    rw (take_rest bytes (i + 1), ← is, ← drop_more bytes i 0 less) (sym (take-append-drop i bytes))
 
 -- the first of some lines, and those after it
 abbrev pub NextLine : List ℕ → List ℕ → List (List ℕ) → Type 0
@@ -103,5 +94,4 @@ no_line bytes (first ∷ later) are bare =
 pub ended_append : (texts others : List (List ℕ)) → ended (texts ++ others) ≡ ended texts ++ ended others
 ended_append [] others = refl
 ended_append (text ∷ texts) others =
-    ap (λ rest. text ++ 10 ∷ rest) (ended_append texts others)
-    ∙ sym (append_assoc text (10 ∷ ended texts) (ended others))
+    rw (append_assoc text (10 ∷ ended texts) (ended others), ended_append texts others)

@@ -1,5 +1,5 @@
 -- Lines of entries that have been read, and those that are left.
-use Rattle.std.proofs.Common.{◌≡◌, ◌≢◌, ℕ, ◌+◌, ◌<◌, List, [], ◌∷◌, ◌++◌, ◌∙◌, length, sym, ap, subst, arith}
+use Rattle.std.proofs.Common.{◌≡◌, ◌≢◌, ℕ, ◌+◌, ◌<◌, List, [], ◌∷◌, ◌++◌, ◌∙◌, length, sym, ap, arith}
 use Rattle.std.proofs.lemmas.List.{append_assoc, append-nil}
 use Rattle.std.proofs.lemmas.Slice.Zip.{AllZip-long}
 use Rattle.std.specs.List.{AllByRecursion, AllZip}
@@ -31,7 +31,7 @@ pub no_parent : (text parent rest : List ℕ) → text ≡ parent ++ 32 ∷ rest
     → ¬ IsEntryText text
 no_parent text parent rest e none not (line, is) =
     let pieces = entry_pieces text parent rest line e none is in
-    not is.number (subst (λ (p : List ℕ). IsNumber p is.number) pieces.0 is.is_number)
+    not is.number (rw pieces.0 at is.is_number)
 
 pub no_thread : (text parent rest : List ℕ) → text ≡ parent ++ 32 ∷ rest → AllByRecursion (λ b. b ≢ 32) parent
     → ((thread : ℕ) (order : List ℕ) → thread < 10 → rest ≢ (48 + thread) ∷ 32 ∷ order) → ¬ IsEntryText text
@@ -44,9 +44,8 @@ pub no_order : (text parent rest : List ℕ) (thread : ℕ) (order : List ℕ) �
     → rest ≡ (48 + thread) ∷ 32 ∷ order → ((names : _) → ¬ IsOrder order names) → ¬ IsEntryText text
 no_order text parent rest thread order e none split not (line, is) =
     let pieces = entry_pieces text parent rest line e none is in
-    let ends : (48 + thread) ∷ 32 ∷ order ≡ (48 + line.thread) ∷ 32 ∷ is.order = sym split ∙ pieces.1 in
-    let same : is.order ≡ order = cc in
-    not line.order (subst (λ (o : List ℕ). IsOrder o line.order) same is.is_order)
+    let same : is.order ≡ order = cc (pieces.1) in
+    not line.order (rw same at is.is_order)
 
 -- the bytes are lines: first those of these entries, and then the rest
 pub record HasReadLines (bytes : List ℕ) (lines : List BookLine) (rest : List ℕ) : Type 0 where
@@ -68,14 +67,14 @@ pub lines_push : (bytes : List ℕ) (lines : List BookLine) (rest text tail : Li
 lines_push bytes lines rest text tail line has e bare is =
     let (later, split, left) = next_line rest text tail has.ahead has.left e bare in
     let same : has.done ++ has.ahead ≡ (has.done ++ text ∷ []) ++ later =
-    ap (λ (ts : List (List ℕ)). has.done ++ ts) split ∙ sym (append_assoc has.done (text ∷ []) later) in
+    (λ j. has.done ++ split j) ∙ sym (append_assoc has.done (text ∷ []) later) in
     record {
       done = has.done ++ text ∷ [];
       ahead = later;
-      whole = subst (AreLines bytes) same has.whole;
+      whole = rw same at has.whole;
       left = left;
       each = AllZip-push IsEntryLine has.done lines text line has.each is;
-      bounded = subst (λ (ts : List (List ℕ)). length ts < 2000000) same has.bounded;
+      bounded = rw same at has.bounded;
     }
 
 pub lines_all : (bytes : List ℕ) (lines : List BookLine) (rest : List ℕ) → HasReadLines bytes lines rest
@@ -83,22 +82,18 @@ pub lines_all : (bytes : List ℕ) (lines : List BookLine) (rest : List ℕ) →
     → (texts : List (List ℕ)) × AreLines bytes texts × AllZip IsEntryLine texts lines
 lines_all bytes lines rest has bare =
     let none : has.ahead ≡ [] = no_line rest has.ahead has.left bare in
-    let same : has.done ++ has.ahead ≡ has.done =
-    ap (λ (ts : List (List ℕ)). has.done ++ ts) none ∙ append-nil has.done in
-    (has.done, subst (AreLines bytes) same has.whole, has.each)
+    (has.done, rw (none, append-nil has.done) at has.whole, has.each)
 
 pub lines_fault : (bytes : List ℕ) (lines : List BookLine) (rest text tail : List ℕ) → HasReadLines bytes lines rest
     → rest ≡ text ++ 10 ∷ tail
     → AllByRecursion (λ b. b ≢ 10) text → ¬ IsEntryText text → IsEntriesFault bytes (Form (length lines + 3))
 lines_fault bytes lines rest text tail has e bare not =
-    let (later, split, left) = next_line rest text tail has.ahead has.left e bare in
-    let same : has.done ++ has.ahead ≡ has.done ++ text ∷ later = ap (λ (ts : List (List ℕ)). has.done ++ ts) split in
-    let count : length lines ≡ length has.done = AllZip-long IsEntryLine has.done lines has.each in (
+    let (later, split, left) = next_line rest text tail has.ahead has.left e bare in (
       has.done,
       text,
       later,
-      subst (AreLines bytes) same has.whole,
+      rw split at has.whole,
       entries_formed has.done lines has.each,
       not,
-      ap (λ n. Form (n + 3)) count,
+      ap (λ n. Form (n + 3)) (AllZip-long IsEntryLine has.done lines has.each),
     )

@@ -1,12 +1,12 @@
 -- The head of a book file, and what follows it.
-use Rattle.std.proofs.Common.{◌≡◌, ◌≢◌, ℕ, ◌<◌, List, [], ◌∷◌, ◌++◌, ◌∙◌, length, codes, refl, sym, ap, subst, arith}
+use Rattle.std.proofs.Common.{◌≡◌, ◌≢◌, ℕ, ◌<◌, List, [], ◌∷◌, ◌++◌, ◌∙◌, length, codes, refl, sym, ap, arith}
 use Rattle.std.proofs.Common.{◌+◌, ◌⊎◌, inl, inr}
 use Rattle.std.proofs.lemmas.List.{append_cancel_left}
 use Rattle.std.specs.List.{AllByRecursion, AllZip}
 use Rattle.replay.specs.declared.file.fault.CheckFault.{CheckFault}
 use Rattle.replay.specs.declared.file.fault.CheckFault.TheVariants.{OutOfMemory}
 use Rattle.replay.specs.declared.file.line.BookLine.{BookLine}
-use Rattle.replay.specs.Text.Files.{ended, AreLines, IsNumber, IsEntryLine, IsHead, start_text, HasHead, IsBookText}
+use Rattle.replay.specs.Text.Files.{ended, AreLines, IsEntryLine, IsHead, start_text, HasHead, IsBookText}
 use Rattle.replay.specs.Text.Files.{IsEntryMisformed, IsFirstMisformed, IsEntriesFault, IsFormFault}
 use Rattle.replay.proofs.Text.Cuts.{next_line, no_line, same_lines}
 use Rattle.replay.proofs.Text.OneReading.{same_number}
@@ -16,15 +16,15 @@ pub same_head : (text : List ℕ) (m n : ℕ) → IsHead text m → IsHead text 
 same_head text m n is also =
     let same : is.number ≡ also.number =
     append_cancel_left (codes "treesched book 1 entries ") is.number also.number (sym is.whole ∙ also.whole) in
-    same_number also.number m n (subst (λ (t : List ℕ). IsNumber t m) same is.is_number) also.is_number
+    same_number also.number m n (rw same at is.is_number) also.is_number
 
 pub has_head : (bytes head rest : List ℕ) (entries : ℕ) (texts : List (List ℕ)) → bytes ≡ head ++ 10 ∷ rest
     → AllByRecursion (λ b. b ≢ 10) head
     → IsHead head entries → AreLines rest texts → length texts ≡ entries → HasHead bytes texts
 has_head bytes head rest entries texts e bare is are count = record {
   head = head;
-  are_lines = record { whole = e ∙ ap (λ (l : List ℕ). head ++ 10 ∷ l) are.whole; bare = (bare, are.bare) };
-  is_head = subst (IsHead head) (sym count) is;
+  are_lines = record { whole = rw (← are.whole) e; bare = (bare, are.bare) };
+  is_head = rw count is;
 }
 
 -- the head comes before the first line feed
@@ -35,20 +35,19 @@ head_pieces bytes head rest texts e bare has =
     let (later, split, are) = next_line bytes head rest (has.head ∷ texts) has.are_lines e bare in
     let same : has.head ≡ head = cc in
     let others : later ≡ texts = cc in
-    (subst (λ (t : List ℕ). IsHead t (length texts)) same has.is_head, subst (AreLines rest) others are)
+    (rw same at has.is_head, rw others at are)
 
 pub no_head : (bytes : List ℕ) (texts : List (List ℕ)) → AllByRecursion (λ b. b ≢ 10) bytes → ¬ HasHead bytes texts
-no_head bytes texts bare has = let none : has.head ∷ texts ≡ [] = no_line bytes (has.head ∷ texts) has.are_lines bare in
-    cc
+no_head bytes texts bare has = cc (no_line bytes (has.head ∷ texts) has.are_lines bare)
 
 pub other_count : (bytes head rest : List ℕ) (entries count : ℕ) (lines texts : List (List ℕ))
     → bytes ≡ head ++ 10 ∷ rest → AllByRecursion (λ b. b ≢ 10) head
     → IsHead head entries → AreLines rest lines → length lines ≡ count → count ≢ entries → ¬ HasHead bytes texts
 other_count bytes head rest entries count lines texts e bare is are counted differs has =
     let pieces = head_pieces bytes head rest texts e bare has in
-    let same : entries ≡ length texts = same_head head entries (length texts) is pieces.0 in
-    let others : lines ≡ texts = same_lines rest lines texts are pieces.1 in
-    differs (sym counted ∙ ap length others ∙ sym same)
+    let same = same_head head entries (length texts) is pieces.0 in
+    let others = same_lines rest lines texts are pieces.1 in
+    differs (cc)
 
 pub start_bare : AllByRecursion (λ b. b ≢ 10) start_text
 start_bare = search arith
@@ -67,9 +66,8 @@ pub is_book : (bytes rest tail : List ℕ) (texts : List (List ℕ)) (lines : Li
     → (others : List (List ℕ)) × AreLines tail others × AllZip IsEntryLine others lines → IsBookText bytes lines
 is_book bytes rest tail texts lines has are e (others, lie, each) =
     let (later, split, left, bounded) = after_start bytes rest tail texts has are e in
-    let same : texts ≡ start_text ∷ others =
-    split ∙ ap (λ (ts : List (List ℕ)). start_text ∷ ts) (same_lines tail later others left lie) in
-    record { texts = others; has_head = subst (HasHead bytes) same has; each = each }
+    let same : texts ≡ start_text ∷ others = cc (split, same_lines tail later others left lie) in
+    record { texts = others; has_head = rw same at has; each = each }
 
 -- a fault of the lines after the start's is a fault of the bytes
 pub entries_fault : (bytes rest tail : List ℕ) (texts : List (List ℕ)) (stated : CheckFault) → HasHead bytes texts
@@ -80,13 +78,13 @@ entries_fault bytes rest tail texts stated has are e (inr is) =
     let (earlier, text, later, lie, formed, not, place) = is in
     let (others, split, left, bounded) = after_start bytes rest tail texts has are e in
     let same : texts ≡ start_text ∷ earlier ++ text ∷ later =
-    split ∙ ap (λ (ts : List (List ℕ)). start_text ∷ ts) (same_lines tail others (earlier ++ text ∷ later) left lie) in
+    cc (split, same_lines tail others (earlier ++ text ∷ later) left lie) in
     let entry : IsEntryMisformed bytes (length earlier + 3) =
     record {
       earlier = earlier;
       text = text;
       later = later;
-      has_head = subst (HasHead bytes) same has;
+      has_head = rw same at has;
       formed = formed;
       misformed = not;
       place = refl;
@@ -98,6 +96,5 @@ pub start_fault : (bytes rest : List ℕ) (texts : List (List ℕ)) → HasHead 
     → ((tail : List ℕ) → rest ≢ start_text ++ 10 ∷ tail) → IsFirstMisformed bytes 2
 start_fault bytes rest [] has are none = absurd (omega (arith, has.is_head.some))
 start_fault bytes rest (text ∷ later) has are none =
-    let differs : text ≢ start_text =
-    λ same. none (ended later) (are.whole ∙ ap (λ (t : List ℕ). t ++ 10 ∷ ended later) same) in
+    let differs : text ≢ start_text = λ same. none (ended later) (rw same at are.whole) in
     inr (inl (record { text = text; later = later; has_head = has; misformed = differs; place = refl }))

@@ -1,5 +1,5 @@
 -- Bytes are the text of the lines of one book at most, and one line at most is the first that is not in the form.
-use Rattle.std.proofs.Common.{◌≡◌, ◌≢◌, ◌∙◌, ℕ, ◌+◌, ◌<◌, min, List, [], ◌∷◌, ◌++◌, length, get_or, refl, sym, subst}
+use Rattle.std.proofs.Common.{◌≡◌, ◌≢◌, ◌∙◌, ℕ, ◌+◌, ◌<◌, List, [], ◌∷◌, ◌++◌, length, get_or, refl, sym}
 use Rattle.std.proofs.Common.{ap, arith, inl, inr}
 use Rattle.std.proofs.lemmas.Slice.Zip.{AllZip-long}
 use Rattle.std.proofs.lemmas.Str.Parse.{digit_from_value}
@@ -9,7 +9,7 @@ use Rattle.sched_program.specs.declared.operation.OpId.{OpId}
 use Rattle.replay.specs.declared.file.line.BookLine.{BookLine}
 use Rattle.replay.specs.Text.Files.{IsNumber, commaed, order_text, IsEntryLine, start_text, IsBookText, HasHead}
 use Rattle.replay.specs.Text.Files.{IsEntryText, IsStartMisformed, IsEntryMisformed, IsFirstMisformed}
-use Rattle.replay.proofs.Text.Cuts.{same_cut, same_lines}
+use Rattle.replay.proofs.Text.Cuts.{no_cut, same_cut, same_lines}
 
 -- no digit is a byte below 48, as a space or a line feed
 pub digits_bare : (at : ℕ) → at < 48 → (text : List ℕ) → AllDigits 10 text → AllByRecursion (λ b. b ≢ at) text
@@ -23,23 +23,19 @@ space_fails differs = differs refl
 pub same_number : (text : List ℕ) (m n : ℕ) → IsNumber text m → IsNumber text n → m ≡ n
 same_number text m n is also = sym is.value ∙ also.value
 
-same_fields : (t u i j : ℕ) → t ≡ u → i ≡ j
-    → (let id : OpId = record { thread = t; index = i } in id) ≡ record { thread = u; index = j }
-same_fields t u i j e f = rw (e, f)
-
 pub same_id : (a b : OpId) → 48 + a.thread ≡ 48 + b.thread → 48 + a.index ≡ 48 + b.index → a ≡ b
-same_id a b e f = same_fields a.thread b.thread a.index b.index (omega arith) (omega arith)
+same_id a b e f =
+    let threads : a.thread ≡ b.thread = omega arith in
+    let indices : a.index ≡ b.index = omega arith in
+    λ j. record { thread = threads j; index = indices j }
 
 same_commaed : (ids others : List OpId) → commaed ids ≡ commaed others → ids ≡ others
 same_commaed [] [] e = refl
 same_commaed [] (other ∷ others) e = cc
 same_commaed (id ∷ ids) [] e = cc
 same_commaed (id ∷ ids) (other ∷ others) e =
-    let thread : 48 + id.thread ≡ 48 + other.thread = cc in
-    let index : 48 + id.index ≡ 48 + other.index = cc in
-    let tails : commaed ids ≡ commaed others = cc in
-    let first : id ≡ other = same_id id other thread index in
-    let rest : ids ≡ others = same_commaed ids others tails in
+    let first = same_id id other (cc) (cc) in
+    let rest = same_commaed ids others (cc) in
     cc
 
 -- a text is that of one order
@@ -48,17 +44,9 @@ same_order [] [] e = refl
 same_order [] (other ∷ others) e = absurd (omega (arith, ap (λ text. get_or text 0 0) e))
 same_order (id ∷ ids) [] e = absurd (omega (arith, ap (λ text. get_or text 0 0) e))
 same_order (id ∷ ids) (other ∷ others) e =
-    let thread : 48 + id.thread ≡ 48 + other.thread = cc in
-    let index : 48 + id.index ≡ 48 + other.index = cc in
-    let tails : commaed ids ≡ commaed others = cc in
-    let first : id ≡ other = same_id id other thread index in
-    let rest : ids ≡ others = same_commaed ids others tails in
+    let first = same_id id other (cc) (cc) in
+    let rest = same_commaed ids others (cc) in
     cc
-
-same_line : (p q t u : ℕ) (ids others : List OpId) → p ≡ q → t ≡ u → ids ≡ others
-    → (let line : BookLine = record { parent = p; thread = t; order = ids } in line)
-    ≡ record { parent = q; thread = u; order = others }
-same_line p q t u ids others e f g = rw (e, f, g)
 
 -- a text is that of one entry's line
 pub same_entry_line : (text : List ℕ) (line other : BookLine) → IsEntryLine text line → IsEntryLine text other
@@ -69,17 +57,12 @@ same_entry_line text line other is also =
     ((48 + other.thread) ∷ 32 ∷ also.order)
     (sym is.whole ∙ also.whole) (digits_bare 32 (omega arith) is.parent is.is_number.digits.1) space_fails
     (digits_bare 32 (omega arith) also.parent also.is_number.digits.1) space_fails in
-    let parents : is.parent ≡ also.parent = cut.0 in
-    let rests : (48 + line.thread) ∷ 32 ∷ is.order ≡ (48 + other.thread) ∷ 32 ∷ also.order = cut.2 in
-    let numbers : is.number ≡ also.number =
-    same_number also.parent is.number also.number
-    (subst (λ (p : List ℕ). IsNumber p is.number) parents is.is_number) also.is_number in
-    let threads : 48 + line.thread ≡ 48 + other.thread = cc in
-    let texts : is.order ≡ also.order = cc in
-    let orders : order_text line.order ≡ order_text other.order = sym is.is_order.whole ∙ texts ∙ also.is_order.whole in
-    same_line line.parent other.parent line.thread other.thread line.order other.order
-    (is.counted ∙ ap (λ n. min n 2000000) numbers ∙ sym also.counted) (omega arith)
-    (same_order line.order other.order orders)
+    let numbers = same_number also.parent is.number also.number (rw cut.0 at is.is_number) also.is_number in
+    let parents : line.parent ≡ other.parent = cc (numbers, is.counted, also.counted) in
+    let digits : 48 + line.thread ≡ 48 + other.thread = cc (cut.2) in
+    let threads : line.thread ≡ other.thread = omega arith in
+    let orders = same_order line.order other.order (cc (cut.2, is.is_order.whole, also.is_order.whole)) in
+    λ j. record { parent = parents j; thread = threads j; order = orders j }
 
 pub same_entries : (texts : List (List ℕ)) (lines others : List BookLine) → AllZip IsEntryLine texts lines
     → AllZip IsEntryLine texts others → lines ≡ others
@@ -89,26 +72,21 @@ same_entries [] (line ∷ lines) others are also = absurd are
 same_entries (text ∷ texts) [] others are also = absurd are
 same_entries (text ∷ texts) (line ∷ lines) [] are also = absurd also
 same_entries (text ∷ texts) (line ∷ lines) (other ∷ others) are also =
-    let first : line ≡ other = same_entry_line text line other are.0 also.0 in
-    let rest : lines ≡ others = same_entries texts lines others are.1 also.1 in
-    cc
+    cc (same_entry_line text line other are.0 also.0, same_entries texts lines others are.1 also.1)
 
 -- the texts after the head are determined
 pub same_texts : (bytes : List ℕ) (texts others : List (List ℕ)) → HasHead bytes texts → HasHead bytes others
     → texts ≡ others
 same_texts bytes texts others has also =
-    let lines : has.head ∷ texts ≡ also.head ∷ others = same_lines bytes _ _ has.are_lines also.are_lines in
-    cc
+    cc (same_lines bytes _ _ has.are_lines also.are_lines)
 
 -- bytes are the text of the lines of one book at most
 pub same_book : (bytes : List ℕ) (lines others : List BookLine)
     → IsBookText bytes lines → IsBookText bytes others
     → lines ≡ others
 same_book bytes lines others is also =
-    let lie : start_text ∷ is.texts ≡ start_text ∷ also.texts = same_texts bytes _ _ is.has_head also.has_head in
-    let same : is.texts ≡ also.texts = cc in
-    same_entries also.texts lines others (subst (λ (ts : List (List ℕ)). AllZip IsEntryLine ts lines) same is.each)
-    also.each
+    let same : is.texts ≡ also.texts = cc (same_texts bytes _ _ is.has_head also.has_head) in
+    same_entries also.texts lines others (rw same at is.each) also.each
 
 -- a book has fewer lines after the start's than it may have entries
 pub lines_bounded : (bytes : List ℕ) (lines : List BookLine) → IsBookText bytes lines → length lines < 2000000
@@ -121,44 +99,29 @@ entries_formed [] lines are = tt
 entries_formed (text ∷ texts) [] are = absurd are
 entries_formed (text ∷ texts) (line ∷ lines) are = ((line, are.0), entries_formed texts lines are.1)
 
-misformed_among : (earlier : List (List ℕ)) (text : List ℕ) (later : List (List ℕ))
-    → AllByRecursion IsEntryText (earlier ++ text ∷ later) → IsEntryText text
-misformed_among [] text later formed = formed.0
-misformed_among (first ∷ earlier) text later formed = misformed_among earlier text later formed.1
-
 -- the text of a book has no line that is not in the form
 pub not_both : (bytes : List ℕ) (lines : List BookLine) (number : ℕ) → IsBookText bytes lines
     → ¬ IsFirstMisformed bytes number
 not_both bytes lines number is (inl head) = head.misformed (start_text ∷ is.texts) is.has_head
 not_both bytes lines number is (inr (inl start)) =
-    let same : start_text ∷ is.texts ≡ start.text ∷ start.later = same_texts bytes _ _ is.has_head start.has_head in
-    let first : start.text ≡ start_text = cc in
-    start.misformed first
+    start.misformed (cc (same_texts bytes _ _ is.has_head start.has_head))
 not_both bytes lines number is (inr (inr entry)) =
-    let same : start_text ∷ is.texts ≡ start_text ∷ entry.earlier ++ entry.text ∷ entry.later =
-    same_texts bytes _ _ is.has_head entry.has_head in
-    let texts : is.texts ≡ entry.earlier ++ entry.text ∷ entry.later = cc in
-    entry.misformed
-    (misformed_among entry.earlier entry.text entry.later
-    (subst (AllByRecursion IsEntryText) texts (entries_formed is.texts lines is.each)))
+    let texts : is.texts ≡ entry.earlier ++ entry.text ∷ entry.later =
+    cc (same_texts bytes _ _ is.has_head entry.has_head) in
+    no_cut IsEntryText is.texts entry.earlier entry.text entry.later texts
+    (entries_formed is.texts lines is.each) entry.misformed
 
 start_or_entry : (bytes : List ℕ) (m n : ℕ) → IsStartMisformed bytes m → ¬ IsEntryMisformed bytes n
 start_or_entry bytes m n start entry =
-    let same : start.text ∷ start.later ≡ start_text ∷ entry.earlier ++ entry.text ∷ entry.later =
-    same_texts bytes _ _ start.has_head entry.has_head in
-    let first : start.text ≡ start_text = cc in
-    start.misformed first
+    start.misformed (cc (same_texts bytes _ _ start.has_head entry.has_head))
 
 entry_or_entry : (bytes : List ℕ) (m n : ℕ) → IsEntryMisformed bytes m → IsEntryMisformed bytes n → m ≡ n
 entry_or_entry bytes m n entry other =
-    let same : start_text ∷ entry.earlier ++ entry.text ∷ entry.later ≡ start_text ∷ other.earlier
-    ++ other.text ∷ other.later =
-    same_texts bytes _ _ entry.has_head other.has_head in
-    let texts : entry.earlier ++ entry.text ∷ entry.later ≡ other.earlier ++ other.text ∷ other.later = cc in
-    let cut =
-    same_cut IsEntryText entry.earlier entry.text entry.later other.earlier other.text other.later texts
+    let texts : entry.earlier ++ entry.text ∷ entry.later ≡ other.earlier ++ other.text ∷ other.later =
+    cc (same_texts bytes _ _ entry.has_head other.has_head) in
+    let cut = same_cut IsEntryText entry.earlier entry.text entry.later other.earlier other.text other.later texts
     entry.formed entry.misformed other.formed other.misformed in
-    entry.place ∙ ap (λ (earlier : List (List ℕ)). length earlier + 3) cut.0 ∙ sym other.place
+    cc (cut.0)
 
 -- one line at most is the first that is not in the form
 pub same_misformed : (bytes : List ℕ) (m n : ℕ) → IsFirstMisformed bytes m → IsFirstMisformed bytes n → m ≡ n

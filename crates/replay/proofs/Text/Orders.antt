@@ -1,6 +1,6 @@
 -- What has been read of an order's text, and what is left of it.
-use Rattle.std.proofs.Common.{◌≡◌, ◌≢◌, ℕ, ◌+◌, ◌≤◌, List, [], ◌∷◌, ◌++◌, ◌∙◌, length, get_or, refl, sym, ap}
-use Rattle.std.proofs.Common.{subst, arith}
+use Rattle.std.proofs.Common.{◌≡◌, ◌≢◌, ℕ, ◌≤◌, List, [], ◌∷◌, ◌++◌, ◌∙◌, length, get_or, refl, sym, ap}
+use Rattle.std.proofs.Common.{arith}
 use Rattle.std.proofs.lemmas.List.{append_assoc, length-append}
 use Rattle.std.specs.List.{AllByRecursion}
 use Rattle.sched_program.specs.declared.operation.OpId.{OpId}
@@ -29,9 +29,13 @@ pub order_push : (text : List ℕ) (order : List OpId) (rest tail : List ℕ) (i
 order_push text order rest tail id later has comma e is = record {
   names = all_append IsName order (id ∷ []) has.names (is, tt);
   some = omega (arith, length-append order (id ∷ []));
-  whole = has.whole ∙ ap (λ (l : List ℕ). order_text order ++ l) (comma ∙ ap (λ (l : List ℕ). 44 ∷ l) e)
-      ∙ sym (append_assoc (order_text order) (44 ∷ name_text id) later)
-      ∙ ap (λ (l : List ℕ). l ++ later) (sym (order_text_push order id has.some));
+  whole = rw (
+    order_text_push order id has.some,
+    append_assoc (order_text order) (44 ∷ name_text id) later,
+    ← e,
+    ← comma,
+  )
+      has.whole;
 }
 
 -- an order goes on after another with some names, which are the rest of the text
@@ -43,11 +47,8 @@ commaed_left : (order other : List OpId) (rest : List ℕ) → commaed other ≡
 commaed_left [] other rest e = (other, refl, sym e)
 commaed_left (id ∷ order) [] rest e = cc
 commaed_left (id ∷ order) (first ∷ other) rest e =
-    let thread : 48 + id.thread ≡ 48 + first.thread = cc in
-    let index : 48 + id.index ≡ 48 + first.index = cc in
-    let tails : commaed other ≡ commaed order ++ rest = cc in
-    let same : id ≡ first = same_id id first thread index in
-    let (more, split, left) = commaed_left order other rest tails in
+    let same = same_id id first (cc) (cc) in
+    let (more, split, left) = commaed_left order other rest (cc) in
     (more, cc, left)
 
 order_left : (text : List ℕ) (order other : List OpId) (rest : List ℕ) → HasOrder text order rest → IsOrder text other
@@ -57,11 +58,8 @@ order_left text (id ∷ order) [] rest has is =
     absurd (omega (arith, ap (λ (l : List ℕ). get_or l 0 0) (sym is.whole ∙ has.whole)))
 order_left text (id ∷ order) (first ∷ other) rest has is =
     let whole : name_text first ++ commaed other ≡ name_text id ++ (commaed order ++ rest) = sym is.whole ∙ has.whole in
-    let thread : 48 + id.thread ≡ 48 + first.thread = cc in
-    let index : 48 + id.index ≡ 48 + first.index = cc in
-    let tails : commaed other ≡ commaed order ++ rest = cc in
-    let same : id ≡ first = same_id id first thread index in
-    let (more, split, left) = commaed_left order other rest tails in
+    let same = same_id id first (cc) (cc) in
+    let (more, split, left) = commaed_left order other rest (cc) in
     (more, cc, left)
 
 among : (order : List OpId) (id : OpId) (more : List OpId) → AllByRecursion IsName (order ++ id ∷ more) → IsName id
@@ -79,8 +77,7 @@ no_name text order rest tail has comma none other is =
     go : (more : List OpId) → other ≡ order ++ more → rest ≡ commaed more → ⊥
     go [] split left = cc
     go (id ∷ more) split left =
-        let tails : tail ≡ name_text id ++ commaed more = cc in
-        none id (commaed more) (among order id more (subst (AllByRecursion IsName) split is.names)) tails
+        none id (commaed more) (among order id more (rw split at is.names)) (cc)
 
 -- nor one that goes on and not with a comma
 pub no_comma : (text : List ℕ) (order : List OpId) (rest : List ℕ) → HasOrder text order rest → length rest ≢ 0

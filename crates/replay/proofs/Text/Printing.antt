@@ -1,6 +1,6 @@
 -- What is written line by line is a book's text.
 use Rattle.std.proofs.Common.{◌≡◌, ◌≢◌, ℕ, zero, suc, ◌+◌, ◌<◌, ◌≤◌, ◌^◌, List, [], ◌∷◌, ◌++◌, ◌∙◌, length, map, get_or}
-use Rattle.std.proofs.Common.{codes, refl, sym, ap, subst, arith}
+use Rattle.std.proofs.Common.{codes, refl, ap, arith}
 use Rattle.std.proofs.lemmas.Fmt.{decimal_is_IsNumeral, first_decimal, decimal_digit}
 use Rattle.std.proofs.lemmas.List.{append_assoc, map_push, length-map}
 use Rattle.std.proofs.lemmas.List.Elements.{recursion_from_All, All-head, All-tail}
@@ -24,8 +24,7 @@ book_text entries lines = ended (head_text entries ∷ start_text ∷ map text_o
 
 -- four pieces, written one by one
 pub pieces : (old words number feed : List ℕ) → ((old ++ words) ++ number) ++ feed ≡ old ++ ((words ++ number) ++ feed)
-pieces old words number feed = append_assoc (old ++ words) number feed ∙ append_assoc old words (number ++ feed)
-    ∙ ap (λ (l : List ℕ). old ++ l) (sym (append_assoc words number feed))
+pieces old words number feed = simp append_assoc
 
 -- what is written of a head
 pub head_written : (old : List ℕ) (entries : ℕ) → ((old ++ codes "treesched book 1 entries ") ++ decimal entries)
@@ -37,7 +36,7 @@ head_written old entries = pieces old (codes "treesched book 1 entries ") (decim
 pub order_written : (old : List ℕ) (order : List OpId) (first : OpId) (rest : List OpId) → order ≡ first ∷ rest
     → (old ++ name_text first) ++ commaed rest ≡ old ++ order_text order
 order_written old order first rest is =
-    append_assoc old (name_text first) (commaed rest) ∙ ap (λ (ids : List OpId). old ++ order_text ids) (sym is)
+    rw (is, append_assoc)
 
 -- what decimal writes is the number
 is_number : (n : ℕ) → n < 2 ^ 64 → IsNumber (decimal n) n
@@ -87,12 +86,9 @@ order_bare (id ∷ ids) = (omega arith, (omega arith, (omega arith, commaed_bare
 
 entry_bare : (text : List ℕ) (line : BookLine) → IsEntryLine text line → AllByRecursion (λ b. b ≢ 10) text
 entry_bare text line is =
-    let order : AllByRecursion (λ b. b ≢ 10) is.order =
-    subst (AllByRecursion (λ b. b ≢ 10)) (sym is.is_order.whole) (order_bare line.order) in
-    subst (AllByRecursion (λ b. b ≢ 10)) (sym is.whole)
-    (all_append (λ b. b ≢ 10) is.parent (32 ∷ (48 + line.thread) ∷ 32 ∷ is.order)
-    (number_bare is.parent is.number is.is_number)
-    (omega arith, (omega arith, (omega arith, order))))
+    let order : AllByRecursion (λ b. b ≢ 10) is.order = rw is.is_order.whole (order_bare line.order) in
+    rw is.whole (all_append (λ b. b ≢ 10) is.parent (32 ∷ (48 + line.thread) ∷ 32 ∷ is.order)
+    (number_bare is.parent is.number is.is_number) (omega arith, (omega arith, (omega arith, order))))
 
 words_bare : AllByRecursion (λ b. b ≢ 10) (codes "treesched book 1 entries ")
 words_bare = search arith
@@ -122,7 +118,7 @@ pub is_written : (lines : List BookLine) → All IsProper lines → length lines
 unfolding book_text
 is_written lines proper bounded =
     let each = entries_each lines proper in
-    let count : length lines + 1 ≡ length (start_text ∷ map text_of lines) = omega (arith, length-map lines text_of) in
+    let count : length (start_text ∷ map text_of lines) ≡ length lines + 1 = omega (arith, length-map lines text_of) in
     record {
       texts = map text_of lines;
       has_head = record {
@@ -134,9 +130,7 @@ is_written lines proper bounded =
             (start_bare, entries_bare (map text_of lines) lines each),
           );
         };
-        is_head =
-            subst (IsHead (head_text (length lines + 1))) count
-            (is_head (length lines + 1) (omega arith) (omega arith));
+        is_head = rw count (is_head (length lines + 1) (omega arith) (omega arith));
       };
       each = each;
     }

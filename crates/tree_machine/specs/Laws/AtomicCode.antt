@@ -1,7 +1,7 @@
 -- The bytes of the machine that does each operation at once determine what they are of.
 use Rattle.std.specs.Prelude.{◌≡◌, ℕ, List, [], ◌∷◌, ◌++◌, Option, Some, None, refl}
 use Rattle.std.specs.List.{flat_map}
-use Rattle.std.proofs.Common.{arith, ap, sym, subst}
+use Rattle.std.proofs.Common.{arith, sym, subst}
 use Rattle.tree_machine.specs.FormCode.{IsInjective, TellsWholly}
 use Rattle.tree_machine.specs.Atomic.{atomic_form, atomic_rules}
 use Rattle.tree_machine.specs.Rules.{ArePlacesInRange, DecodesForms}
@@ -23,13 +23,9 @@ held_readable (None ∷ places) (Some p ∷ others) keys twins e =
 held_readable (Some p ∷ places) (None ∷ others) keys twins e =
     let same : ◌≡◌ {A = ℕ} 2 1 = cc in absurd (omega (arith, same))
 held_readable (None ∷ places) (None ∷ others) keys twins e =
-    let behind : flat_map held_code places ++ 0 ∷ keys ≡ flat_map held_code others ++ 0 ∷ twins = cc in
-    let rest = held_readable places others keys twins behind in
-    (ap (λ l. None ∷ l) rest.0, rest.1)
+    let rest = held_readable places others keys twins (cc) in (cc rest.0, rest.1)
 held_readable (Some Do ∷ places) (Some Do ∷ others) keys twins e =
-    let behind : flat_map held_code places ++ 0 ∷ keys ≡ flat_map held_code others ++ 0 ∷ twins = cc in
-    let rest = held_readable places others keys twins behind in
-    (ap (λ l. Some Do ∷ l) rest.0, rest.1)
+    let rest = held_readable places others keys twins (cc) in (cc rest.0, rest.1)
 
 pub atomic_codes : IsInjective atomic_code
 atomic_codes a b e =

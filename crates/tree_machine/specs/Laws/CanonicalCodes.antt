@@ -1,13 +1,12 @@
 -- Canonical parts in bytes: equal bytes are of parts that can be paired, and so are parts that the bytes are of,
 -- cut at any front.
-use Rattle.std.proofs.Common.{◌≡◌, ℕ, ◌↔◌, length, sym, ◌∙◌, subst}
+use Rattle.std.proofs.Common.{◌≡◌, ℕ, ◌↔◌, length, sym, subst}
 use Rattle.std.proofs.lemmas.List.{length-map}
 use Rattle.std.proofs.lemmas.List.Elements.{length_all_zip}
 use Rattle.tree_machine.specs.Pairing.{IsAmong}
 use Rattle.tree_machine.specs.Parts.{Parts, ArePartsInRange, CanPartsBePaired}
 use Rattle.tree_machine.specs.Flat.{parts_code}
-use Rattle.tree_machine.specs.Canonical.{canonical_code, canonical_front, canonical_parts, renamed_part, met_nodes}
-use Rattle.tree_machine.specs.Canonical.{met_records, front_nodes, front_records}
+use Rattle.tree_machine.specs.Canonical.{canonical_code, canonical_front, canonical_parts}
 use Rattle.tree_machine.specs.Laws.Canonical.{canonical_in_range, canonical_paired}
 use Rattle.tree_machine.specs.Laws.CanonicalPairs.{canonical_exactly, fronts_paired}
 use Rattle.tree_machine.specs.Laws.Codes.{parts_code_tells}
@@ -20,13 +19,11 @@ canonical_codes_exactly fixed s t here there l =
     let exactly = canonical_exactly fixed s t here there in (
       λ e. exactly.0
           (parts_code_tells (canonical_front fixed s) (canonical_front fixed t) (canonical_parts fixed s)
-          (canonical_parts fixed t)
-          (length-map s.held (renamed_part (met_nodes fixed s) (met_records fixed s))
-          ∙ (l ∙ sym (length-map t.held (renamed_part (met_nodes fixed t) (met_records fixed t))))) e).0,
+          (canonical_parts fixed t) (simp length-map l) e).0,
       λ p.
           let front = fronts_paired (IsAmong p.0) (IsAmong p.1) fixed s t here there p.2 in
-          let nodes = length_all_zip (IsAmong p.0) (front_nodes fixed s) (front_nodes fixed t) front.0 in
-          let records = length_all_zip (IsAmong p.1) (front_records fixed s) (front_records fixed t) front.1 in
+          let nodes = length_all_zip (IsAmong p.0) _ _ front.0 in
+          let records = length_all_zip (IsAmong p.1) _ _ front.1 in
           let same = exactly.1 p in
           λ i. parts_code (record { nodes = nodes i; records = records i }) (same i),
     )
@@ -35,8 +32,7 @@ module _ (fixed : ℕ) (s c : Parts) (front : Front) (range : ArePartsInRange fi
     (e : parts_code front c ≡ canonical_code fixed s) where
   pub decoded_is : c ≡ canonical_parts fixed s
   decoded_is =
-      (parts_code_tells front (canonical_front fixed s) c (canonical_parts fixed s)
-      (sym l ∙ sym (length-map s.held (renamed_part (met_nodes fixed s) (met_records fixed s)))) e).0
+      (parts_code_tells front (canonical_front fixed s) c (canonical_parts fixed s) (simp length-map (sym l)) e).0
 
   -- parts whose code, cut at any front, is the canonical code of others can be paired with these
   pub decoded_paired : CanPartsBePaired fixed s c

@@ -1,6 +1,6 @@
 -- Lists of cells and of numbers, end to end.
 use Rattle.std.proofs.Common.{◌≡◌, ℕ, zero, suc, ◌+◌, ◌<◌, ◌≤◌, false, List, [], ◌∷◌, ◌++◌, map, length}
-use Rattle.std.proofs.Common.{refl, ◌∙◌, ap, subst, arith, zero-add, add-zero}
+use Rattle.std.proofs.Common.{refl, ◌∙◌, ap, arith, zero-add, add-zero}
 use Rattle.std.specs.Prelude.{nat_eq}
 use Rattle.std.specs.List.{AllZip, All, AllByRecursion, IsDistinct}
 use Rattle.std.proofs.lemmas.List.Elements.{All-append, All-weaker, All-from_recursion, recursion_from_All}
@@ -34,11 +34,11 @@ pub numbers_zip : (P : ℕ → ℕ → Type 0) (a b n : ℕ) → ((i : ℕ) → 
     → AllZip P (numbers_from a n) (numbers_from b n)
 numbers_zip P a b zero h = tt
 numbers_zip P a b (suc n) h = (
-  subst (λ x. P x b) (add-zero a) (subst (λ y. P (a + 0) y) (add-zero b) (h 0 (omega arith))),
+  rw (add-zero a, add-zero b) at (h 0 (omega arith)),
   numbers_zip P (suc a) (suc b) n (λ i l.
       let e : a + suc i ≡ suc a + i = omega arith in
       let f : b + suc i ≡ suc b + i = omega arith in
-      subst (λ x. P x (suc b + i)) e (subst (λ y. P (a + suc i) y) f (h (suc i) (omega arith)))),
+      rw (e, f) at (h (suc i) (omega arith))),
 )
 
 pub numbers_all : (P : ℕ → Type 0) (a n : ℕ) → ((x : ℕ) → a ≤ x → x < a + n → P x) → All P (numbers_from a n)
@@ -77,28 +77,29 @@ pub distinct_join : (xs ys : List ℕ) → IsDistinct nat_eq xs → IsDistinct n
     → AllByRecursion (λ x. AllByRecursion (λ y. nat_eq x y ≡ false) ys) xs → IsDistinct nat_eq (xs ++ ys)
 distinct_join [] ys d e h = e
 distinct_join (x ∷ xs) ys d e h =
-    IsDistinct-cons nat_eq x (xs ++ ys) (apart_join xs (IsDistinct-head nat_eq x xs d) h.0)
+    let apart = All-from_recursion (λ y. nat_eq x y ≡ false) xs (IsDistinct-head nat_eq x xs d) in
+    IsDistinct-cons nat_eq x (xs ++ ys)
+    (recursion_from_All _ (xs ++ ys) (All-append (λ y. nat_eq x y ≡ false) xs ys apart (All-from_recursion _ ys h.0)))
     (distinct_join xs ys (IsDistinct-tail nat_eq x xs d) e h.1)
+
+-- distinct numbers stay distinct under a map that is one to one among them
+pub mapped_distinct : (P : ℕ → Type 0) (f : ℕ → ℕ) → ((x y : ℕ) → P x → P y → f x ≡ f y → x ≡ y) → (xs : List ℕ)
+    → AllByRecursion P xs → IsDistinct nat_eq xs → IsDistinct nat_eq (map f xs)
+mapped_distinct P f one [] a d = distinct_none
+mapped_distinct P f one (x ∷ xs) a d =
+    IsDistinct-cons nat_eq (f x) (map f xs) (apart xs a.1 (IsDistinct-head nat_eq x xs d))
+    (mapped_distinct P f one xs a.1 (IsDistinct-tail nat_eq x xs d))
   where
-    apart_join : (zs : List ℕ) → AllByRecursion (λ y. nat_eq x y ≡ false) zs
-        → AllByRecursion (λ y. nat_eq x y ≡ false) ys → AllByRecursion (λ y. nat_eq x y ≡ false) (zs ++ ys)
-    apart_join [] h g = g
-    apart_join (z ∷ zs) h g = (h.0, apart_join zs h.1 g)
+    apart : (ys : List ℕ) → AllByRecursion P ys → AllByRecursion (λ y. nat_eq x y ≡ false) ys
+        → AllByRecursion (λ y. nat_eq (f x) y ≡ false) (map f ys)
+    apart [] b h = tt
+    apart (y ∷ ys) b h = (same_tests (f x) x (f y) y (one x y a.0 b.0, λ e. ap f e) ∙ h.0, apart ys b.1 h.1)
 
 -- numbers that are all raised stay distinct
 pub raised_distinct : (n : ℕ) (xs : List ℕ) → IsDistinct nat_eq xs → IsDistinct nat_eq (map (λ x. n + x) xs)
-raised_distinct n [] d = distinct_none
-raised_distinct n (x ∷ xs) d =
-    IsDistinct-cons nat_eq (n + x) (map (λ x. n + x) xs) (go xs (IsDistinct-head nat_eq x xs d))
-    (raised_distinct n xs (IsDistinct-tail nat_eq x xs d))
-  where
-    go : (ys : List ℕ) → AllByRecursion (λ y. nat_eq x y ≡ false) ys
-        → AllByRecursion (λ y. nat_eq (n + x) y ≡ false) (map (λ x. n + x) ys)
-    go [] h = tt
-    go (y ∷ ys) h = (
-      same_tests (n + x) x (n + y) y (λ e. omega (arith, e), λ e. ap (λ z. n + z) e) ∙ h.0,
-      go ys h.1,
-    )
+raised_distinct n xs d =
+    mapped_distinct (λ _. Unit {0}) (λ x. n + x) (λ x y _ _ e. omega (arith, e)) xs
+    (recursion_from_All (λ _. Unit {0}) xs (λ _ _ _. tt)) d
 
 pub rec_weaker : {A : Type 0} (P Q : A → Type 0) → ((x : A) → P x → Q x) → (xs : List A) → AllByRecursion P xs
     → AllByRecursion Q xs

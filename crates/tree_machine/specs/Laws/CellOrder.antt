@@ -34,8 +34,7 @@ pub extends_itself : (xs : List ℕ) → Extends xs xs
 extends_itself xs = record { rest = []; is = sym (append-nil xs) }
 
 pub extends_more : {xs ys zs : List ℕ} → Extends xs ys → Extends ys zs → Extends xs zs
-extends_more {xs} e f =
-    record { rest = e.rest ++ f.rest; is = f.is ∙ (ap (λ l. l ++ f.rest) e.is ∙ append_assoc xs e.rest f.rest) }
+extends_more e f = record { rest = e.rest ++ f.rest; is = rw (f.is, e.is, append_assoc) refl }
 
 pub has_itself : (x : ℕ) → nat_eq x x ≡ true
 has_itself x = eq-eqb x x refl
@@ -48,8 +47,7 @@ nat_equivalence = record {
 }
 
 pub has_extends : {xs ys : List ℕ} → Extends xs ys → (x : ℕ) → Has xs x → Has ys x
-has_extends {xs} e x h =
-    ap (list_any (nat_eq x)) e.is ∙ (list_any-append (nat_eq x) xs e.rest ∙ ap (λ b. b || list_any (nat_eq x) e.rest) h)
+has_extends e x h = rw (e.is, list_any-append, h) refl
 
 pub has_all_extends : {xs ys : List ℕ} → Extends xs ys → (refs : List (Option ℕ)) → HasAll xs refs → HasAll ys refs
 has_all_extends e [] h = tt
@@ -62,7 +60,7 @@ get_append (y ∷ xs) zs zero x h = h
 get_append (y ∷ xs) zs (suc k) x h = get_append xs zs k x h
 
 pub get_extends : {xs ys : List ℕ} → Extends xs ys → (k x : ℕ) → slice_get xs k ≡ Some x → slice_get ys k ≡ Some x
-get_extends {xs} e k x h = ap (λ l. slice_get l k) e.is ∙ get_append xs e.rest k x h
+get_extends {xs} e k x h = rw e.is (get_append xs e.rest k x h)
 
 -- ---- one more cell
 
@@ -76,9 +74,7 @@ met_extends order x = met_extends_by order x (list_any (nat_eq x) order)
 met_has_by : (order : List ℕ) (x : ℕ) (t : Bool) → list_any (nat_eq x) order ≡ t
     → Has (cond t order (order ++ x ∷ [])) x
 met_has_by order x true h = h
-met_has_by order x false h =
-    list_any-append (nat_eq x) order (x ∷ [])
-    ∙ (ap (λ b. list_any (nat_eq x) order || (b || false)) (has_itself x) ∙ or-true _)
+met_has_by order x false h = rw (list_any-append, has_itself x) (or-true _)
 
 pub met_has : (order : List ℕ) (x : ℕ) → Has (met order x) x
 met_has order x = met_has_by order x (list_any (nat_eq x) order) refl
@@ -179,8 +175,7 @@ module _ (cells : List Content) (roots : List ℕ) (h : IsRooted cells roots) wh
       let past : slice_get (met_in cells roots m) m ≡ None =
       slice_get_past (met_in cells roots m) m
       (omega (arith, length-order (length cells) (met_in cells roots m) (met_in_order m))) in
-      ap (met_in cells roots) (add-suc (length cells) n)
-      ∙ (ap (visited cells (met_in cells roots m)) past ∙ met_in_stable n)
+      rw (add-suc (length cells) n, past) (met_in_stable n)
 
 pub visited_extends : (cells : List Content) (order : List ℕ) (r : Option ℕ) → Extends order (visited cells order r)
 visited_extends cells order None = extends_itself order
@@ -208,26 +203,14 @@ below_or_at k n l = grind arith
 
 visited_closed : (cells : List Content) (n : ℕ) (order : List ℕ) → IsClosedBelow cells n order → (r : Option ℕ)
     → slice_get order n ≡ r → IsClosedBelow cells (suc n) (visited cells order r)
-visited_closed cells n order h None at k x l g = go (below_or_at k n l)
-  where
-    go : (k < n) ⊎ (k ≡ n) → HasAll order (content_at cells x).refs
-    go (inl lt) = h k x lt g
-    go (inr e) = let there : slice_get order n ≡ Some x = subst (λ j. slice_get order j ≡ Some x) e g in cc
-visited_closed cells n order h (Some z) at k x l g = go (below_or_at k n l)
-  where
-    more : Extends order (visited cells order (Some z))
-    more = visited_extends cells order (Some z)
-
-    here : slice_get order k ≡ Some x
-    here = get_before more n z at k x (omega arith) g
-
-    go : (k < n) ⊎ (k ≡ n) → HasAll (visited cells order (Some z)) (content_at cells x).refs
-    go (inl lt) = has_all_extends more (content_at cells x).refs (h k x lt here)
-    go (inr e) =
-        let there : slice_get order n ≡ Some x = subst (λ j. slice_get order j ≡ Some x) e here in
-        let same : z ≡ x = cc in
-        subst (λ w. HasAll (visited cells order (Some z)) (content_at cells w).refs) same
-        (met_all_has (content_at cells z).refs order)
+visited_closed cells n order h None at k x l g = elim (below_or_at k n l) [ inl lt ↦ h k x lt g | inr e ↦ cc ]
+visited_closed cells n order h (Some z) at k x l g =
+    let more = visited_extends cells order (Some z) in
+    let here = get_before more n z at k x (omega arith) g in
+    elim (below_or_at k n l) [
+      | inl lt ↦ has_all_extends more (content_at cells x).refs (h k x lt here)
+      | inr e ↦ let same : z ≡ x = cc in rw (← same) (met_all_has (content_at cells z).refs order)
+    ]
 
 pub met_in_closed : (cells : List Content) (roots : List ℕ) (n : ℕ) → IsClosedBelow cells n (met_in cells roots n)
 met_in_closed cells roots zero = λ k x l. absurd (omega arith)

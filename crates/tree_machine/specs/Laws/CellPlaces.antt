@@ -1,8 +1,8 @@
 -- The places of cells in an order.
-use Rattle.std.proofs.Common.{◌≡◌, ℕ, zero, suc, ◌⊎◌, true, false, cond, ◌||◌, List, [], ◌∷◌, map, refl, sym, ◌∙◌, ap}
+use Rattle.std.proofs.Common.{◌≡◌, ℕ, zero, suc, ◌⊎◌, true, false, cond, List, [], ◌∷◌, map, refl, sym, ◌∙◌, ap}
 use Rattle.std.proofs.Common.{subst, inl, inr}
 use Rattle.std.specs.Prelude.{slice_get, Option, Some, None, nat_eq}
-use Rattle.std.specs.List.{AllZip, list_any, zip, IsDistinct}
+use Rattle.std.specs.List.{AllZip, zip, IsDistinct}
 use Rattle.std.specs.Option.{option_map, option_and_then}
 use Rattle.std.proofs.lemmas.Bool.{eq-eqb}
 use Rattle.std.proofs.lemmas.Bool.Decides.{eqb_tells}
@@ -33,19 +33,15 @@ refs_renamed P one xs ys z (None ∷ refs) (None ∷ sefs) h = ap (λ l. None �
 refs_renamed P one xs ys z (None ∷ refs) (Some y ∷ sefs) h = absurd h.0
 refs_renamed P one xs ys z (Some x ∷ refs) (None ∷ sefs) h = absurd h.0
 refs_renamed P one xs ys z (Some x ∷ refs) (Some y ∷ sefs) h =
-    let same = place_paired P one xs ys x y z h.0 in
-    let rest = refs_renamed P one xs ys z refs sefs h.1 in
-    cc
+    cc (place_paired P one xs ys x y z h.0, refs_renamed P one xs ys z refs sefs h.1)
 
 -- what is in a list has a place there, and is at it
 pub place_from_has : (xs : List ℕ) (x : ℕ) → Has xs x → (k : ℕ) × (place_in xs x ≡ Some k)
 place_from_has [] x h = cc
 place_from_has (y ∷ xs) x h =
     elim (eqb_tells x y) [
-      | inl e ↦ (0, ap (λ t. cond t (Some 0) (option_map suc (place_in xs x))) e.0)
-      | inr e ↦
-          let r = place_from_has xs x (sym (ap (λ t. t || list_any (nat_eq x) xs) e.0) ∙ h) in
-          (suc r.0, ap (λ t. cond t (Some 0) (option_map suc (place_in xs x))) e.0 ∙ ap (option_map suc) r.1)
+      | inl e ↦ (0, rw e.0 refl)
+      | inr e ↦ let r = place_from_has xs x (rw e.0 at h) in (suc r.0, rw (e.0, r.1) refl)
     ]
 
 pub get_place : (xs : List ℕ) (x k : ℕ) → place_in xs x ≡ Some k → slice_get xs k ≡ Some x
@@ -56,24 +52,17 @@ get_place (y ∷ xs) x k h = go (λ j. get_place xs x j) (eqb_tells x y) (place_
         ⊎ ((nat_eq x y ≡ false) × (x ≡ y → ⊥)) → (r : Option ℕ) → place_in xs x ≡ r → (k : ℕ)
         → place_in (y ∷ xs) x ≡ Some k → slice_get (y ∷ xs) k ≡ Some x
     go rest (inl e) r at k g =
-        let first : Some 0 ≡ Some k = sym (ap (λ t. cond t (Some 0) (option_map suc (place_in xs x))) e.0) ∙ g in
-        let zeroth : 0 ≡ k = cc in
-        subst (λ j. slice_get (y ∷ xs) j ≡ Some x) zeroth (ap Some (sym e.1))
-    go rest (inr e) None at k g =
-        let none : None ≡ Some k =
-        sym (ap (λ t. cond t (Some 0) (option_map suc (place_in xs x))) e.0 ∙ ap (option_map suc) at) ∙ g in
-        cc
+        let zeroth : 0 ≡ k = cc (rw e.0 at g) in
+        rw (← zeroth) (ap Some (sym e.1))
+    go rest (inr e) None at k g = cc (rw (e.0, at) at g)
     go rest (inr e) (Some j) at k g =
-        let later : Some (suc j) ≡ Some k =
-        sym (ap (λ t. cond t (Some 0) (option_map suc (place_in xs x))) e.0 ∙ ap (option_map suc) at) ∙ g in
-        let after : suc j ≡ k = cc in
-        subst (λ i. slice_get (y ∷ xs) i ≡ Some x) after (rest j at)
+        let after : suc j ≡ k = cc (rw (e.0, at) at g) in
+        rw (← after) (rest j at)
 
 pub has_at : (xs : List ℕ) (k x : ℕ) → slice_get xs k ≡ Some x → Has xs x
 has_at [] k x h = cc
-has_at (y ∷ xs) zero x h = let same : y ≡ x = cc in
-    ap (λ z. nat_eq x z || list_any (nat_eq x) xs) same ∙ ap (λ t. t || list_any (nat_eq x) xs) (has_itself x)
-has_at (y ∷ xs) (suc k) x h = ap (λ t. nat_eq x y || t) (has_at xs k x h) ∙ or-true (nat_eq x y)
+has_at (y ∷ xs) zero x h = let same : y ≡ x = cc in rw (same, has_itself x) refl
+has_at (y ∷ xs) (suc k) x h = rw (has_at xs k x h) (or-true (nat_eq x y))
 
 -- ---- two lists side by side, as pairs
 
@@ -101,12 +90,10 @@ rel_among P (v ∷ xs) (w ∷ ys) z x y (inr h) = rel_among P xs ys z.1 x y h
 pub place_at : (xs : List ℕ) → IsDistinct nat_eq xs → (k x : ℕ) → slice_get xs k ≡ Some x → place_in xs x ≡ Some k
 place_at [] d k x h = cc
 place_at (y ∷ xs) d zero x h =
-    let same : y ≡ x = cc in ap (λ t. cond t (Some 0) (option_map suc (place_in xs x))) (eq-eqb x y (sym same))
+    let same : y ≡ x = cc in rw (eq-eqb x y (sym same)) refl
 place_at (y ∷ xs) d (suc k) x h =
-    ap (λ t. cond t (Some 0) (option_map suc (place_in xs x)))
-    (nat_equivalence.symm x y
-    ∙ all_has (λ z. nat_eq y z ≡ false) xs (IsDistinct-head nat_eq y xs d) x (has_at xs k x h))
-    ∙ ap (option_map suc) (place_at xs (IsDistinct-tail nat_eq y xs d) k x h)
+    let apart = all_has (λ z. nat_eq y z ≡ false) xs (IsDistinct-head nat_eq y xs d) x (has_at xs k x h) in
+    rw (nat_equivalence.symm x y, apart, place_at xs (IsDistinct-tail nat_eq y xs d) k x h) refl
 
 -- places of distinct numbers, side by side, are pairs one to one
 pub zip_one : (xs ys : List ℕ) → IsDistinct nat_eq xs → IsDistinct nat_eq ys → IsOneToOne (IsAmong (zip xs ys))
@@ -117,14 +104,6 @@ zip_one xs ys here there x y a b h g =
     let py = place_at ys there p.0 y p.2 in
     let qa = place_at xs here q.0 a q.1 in
     let qb = place_at ys there q.0 b q.2 in (
-      λ e.
-          let k : Some p.0 ≡ Some q.0 = sym px ∙ (ap (place_in xs) e ∙ qa) in
-          let same : p.0 ≡ q.0 = cc in
-          let found : Some y ≡ Some b = sym p.2 ∙ (ap (slice_get ys) same ∙ q.2) in
-          cc,
-      λ e.
-          let k : Some p.0 ≡ Some q.0 = sym py ∙ (ap (place_in ys) e ∙ qb) in
-          let same : p.0 ≡ q.0 = cc in
-          let found : Some x ≡ Some a = sym p.1 ∙ (ap (slice_get xs) same ∙ q.1) in
-          cc,
+      λ e. let same : p.0 ≡ q.0 = cc (px, qa, e) in cc (p.2, q.2, same),
+      λ e. let same : p.0 ≡ q.0 = cc (py, qb, e) in cc (p.1, q.1, same),
     )

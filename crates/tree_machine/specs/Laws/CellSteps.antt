@@ -1,27 +1,25 @@
 -- Two walks over paired cells go in lock step.
-use Rattle.std.proofs.Common.{◌≡◌, ℕ, zero, suc, ◌⊎◌, ◌↔◌, Bool, true, false, cond, ◌||◌, List, [], ◌∷◌, ◌++◌, refl}
+use Rattle.std.proofs.Common.{◌≡◌, ℕ, zero, suc, ◌↔◌, Bool, true, false, cond, ◌||◌, List, [], ◌∷◌, ◌++◌, refl}
 use Rattle.std.proofs.Common.{sym, ◌∙◌, ap, subst, inl, inr}
 use Rattle.std.specs.Prelude.{slice_get, Option, Some, None, nat_eq}
 use Rattle.std.specs.List.{AllZip, list_any}
+use Rattle.std.proofs.lemmas.Bool.{eq-eqb}
 use Rattle.std.proofs.lemmas.Bool.Decides.{eqb_tells}
 use Rattle.std.proofs.lemmas.List.Elements.{AllZip-push}
 use Rattle.tree_machine.specs.Cells.{Content, IsPairedOrNone, IsPairing, met, met_all, visited, met_in}
 use Rattle.tree_machine.specs.Pairing.{IsOneToOne}
 
--- two tests agree where what they test is equal together
-pub same_tests : (x y a b : ℕ) → (x ≡ a) ↔ (y ≡ b) → nat_eq x a ≡ nat_eq y b
-same_tests x y a b h = go (eqb_tells x a) (eqb_tells y b)
-  where
-    go : ((nat_eq x a ≡ true) × (x ≡ a)) ⊎ ((nat_eq x a ≡ false) × (x ≡ a → ⊥)) → ((nat_eq y b ≡ true) × (y ≡ b))
-        ⊎ ((nat_eq y b ≡ false) × (y ≡ b → ⊥)) → nat_eq x a ≡ nat_eq y b
-    go (inl p) (inl q) = p.0 ∙ sym q.0
-    go (inl p) (inr q) = absurd (q.1 (h.0 p.1))
-    go (inr p) (inl q) = absurd (p.1 (h.1 q.1))
-    go (inr p) (inr q) = p.0 ∙ sym q.0
-
 -- a number is not another one
 pub is_other : (x y : ℕ) → (x ≡ y → ⊥) → nat_eq x y ≡ false
 is_other x y h = elim (eqb_tells x y) [ inl e ↦ absurd (h e.1) | inr e ↦ e.0 ]
+
+-- two tests agree where what they test is equal together
+pub same_tests : (x y a b : ℕ) → (x ≡ a) ↔ (y ≡ b) → nat_eq x a ≡ nat_eq y b
+same_tests x y a b h =
+    elim (eqb_tells x a) [
+      | inl p ↦ p.0 ∙ sym (eq-eqb y b (h.0 p.1))
+      | inr p ↦ p.0 ∙ sym (is_other y b (λ e. p.1 (h.1 e)))
+    ]
 
 -- pairs are met together
 pub has_paired : (P : ℕ → ℕ → Type 0) → IsOneToOne P → (xs ys : List ℕ) (a b : ℕ) → AllZip P xs ys → P a b

@@ -48,11 +48,7 @@ pub unmap : {A B C : Type 0} (f : A → C) (g : B → C) (xs : List A) (ys : Lis
 unmap f g [] [] e = tt
 unmap f g [] (y ∷ ys) e = cc
 unmap f g (x ∷ xs) [] e = cc
-unmap f g (x ∷ xs) (y ∷ ys) e = (
-  let first : f x ≡ g y = cc in
-      first,
-  unmap f g xs ys (let rest : map f xs ≡ map g ys = cc in rest),
-)
+unmap f g (x ∷ xs) (y ∷ ys) e = (cc, unmap f g xs ys (cc))
 
 pub AllZip-weaker : {A B : Type 0} (P Q : A → B → Type 0) → ((x : A) (y : B) → P x y → Q x y)
     → (xs : List A) (ys : List B)
@@ -79,27 +75,18 @@ pub refs_from_renamed : (xs ys : List ℕ) (refs sefs : List (Option ℕ)) → H
 refs_from_renamed xs ys [] [] h g e = tt
 refs_from_renamed xs ys [] (s ∷ sefs) h g e = cc
 refs_from_renamed xs ys (r ∷ refs) [] h g e = cc
-refs_from_renamed xs ys (None ∷ refs) (None ∷ sefs) h g e = (
-  tt,
-  refs_from_renamed xs ys refs sefs h g
-      (let rest : map (option_and_then (place_in xs)) refs ≡ map (option_and_then (place_in ys)) sefs = cc in rest),
-)
+refs_from_renamed xs ys (None ∷ refs) (None ∷ sefs) h g e = (tt, refs_from_renamed xs ys refs sefs h g (cc))
 refs_from_renamed xs ys (None ∷ refs) (Some y ∷ sefs) h g e =
     let k = place_from_has ys y g.0 in
-    let same : None ≡ place_in ys y = cc in
-    let there : place_in ys y ≡ Some k.0 = k.1 in
-    cc
+    cc k.1
 refs_from_renamed xs ys (Some x ∷ refs) (None ∷ sefs) h g e =
     let k = place_from_has xs x h.0 in
-    let same : place_in xs x ≡ None = cc in
-    let there : place_in xs x ≡ Some k.0 = k.1 in
-    cc
+    cc k.1
 refs_from_renamed xs ys (Some x ∷ refs) (Some y ∷ sefs) h g e =
     let k = place_from_has xs x h.0 in
     let same : place_in xs x ≡ place_in ys y = cc in (
       among_at xs ys k.0 x y (get_place xs x k.0 k.1) (get_place ys y k.0 (sym same ∙ k.1)),
-      refs_from_renamed xs ys refs sefs h.1 g.1
-          (let rest : map (option_and_then (place_in xs)) refs ≡ map (option_and_then (place_in ys)) sefs = cc in rest),
+      refs_from_renamed xs ys refs sefs h.1 g.1 (cc),
     )
 
 -- the places of two orders that give equal results
@@ -119,9 +106,7 @@ module _ (cells others : List Content) (xs ys : List ℕ) (xs_order : IsOrder (l
             let p = at_among xs ys x y h in
             (xs_order.below x (has_at xs p.0 x p.1), ys_order.below y (has_at ys p.0 y p.2));
         roots_paired =
-            subst (λ vs. AllZip (IsAmong (zip vs ys)) roots targets) (sym front_x.is)
-            (subst (λ ws. AllZip (IsAmong (zip (roots ++ front_x.rest) ws)) roots targets) (sym front_y.is)
-            (fronts_paired roots targets front_x.rest front_y.rest l));
+            rw (front_x.is, front_y.is) (fronts_paired roots targets front_x.rest front_y.rest l);
         facts_equal = λ x y h. ap (λ c. c.facts) (rel_among _ xs ys same x y h);
         refs_paired = λ x y h.
             let p = at_among xs ys x y h in

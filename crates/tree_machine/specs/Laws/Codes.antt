@@ -1,16 +1,16 @@
 -- Bytes determine what they are of: nodes, records and what threads hold, and states.
-use Rattle.std.proofs.Common.{◌≡◌, ℕ, ◌/◌, ◌%◌, ◌⊎◌, List, [], ◌∷◌, ◌++◌, map, length, take, drop, replicate}
+use Rattle.std.proofs.Common.{◌≡◌, ℕ, ◌⊎◌, List, [], ◌∷◌, ◌++◌, map, length, take, drop}
 use Rattle.std.proofs.Common.{refl, sym, ◌∙◌, ap, inl, inr, arith, append_assoc, append-nil, length-append}
 use Rattle.std.specs.Prelude.{Option}
 use Rattle.std.proofs.lemmas.List.{length-map, take-append-drop}
 use Rattle.tree_machine.specs.Cells.{Content}
 use Rattle.tree_machine.specs.Parts.{Part, Parts}
-use Rattle.tree_machine.specs.Flat.{number_code, part_content, part_codes, graph_code, left_code, parts_code}
-use Rattle.tree_machine.specs.Laws.Flat.{number_before, number_split, flat_split}
+use Rattle.tree_machine.specs.Flat.{part_content, part_codes, graph_code, left_code, parts_code}
+use Rattle.tree_machine.specs.Laws.Flat.{number_read, number_split, flat_split}
 use Rattle.tree_machine.specs.declared.front.Front.{Front}
 use Rattle.tree_machine.specs.Alike.{FormContent, places_of, replies_of, notes_of}
 use Rattle.tree_machine.specs.FormCode.{IsInjective, TellsWholly, content_code, cut_code, state_code}
-use Rattle.tree_machine.specs.Laws.FormCode.{content_readable, halves}
+use Rattle.tree_machine.specs.Laws.FormCode.{content_readable, halves, state_content}
 use Rattle.tree_machine.specs.declared.state.Thread.{Thread}
 use Rattle.tree_machine.specs.declared.state.State.{State}
 
@@ -41,29 +41,20 @@ same_part p q e =
 parts_split : (ps qs : List Part) (xs ys : List ℕ) → length ps ≡ length qs → part_codes ps ++ xs ≡ part_codes qs ++ ys
     → (ps ≡ qs) × (xs ≡ ys)
 parts_split ps qs xs ys l e =
-    let long = length-map ps part_content ∙ (l ∙ sym (length-map qs part_content)) in
-    let split = flat_split (map part_content ps) (map part_content qs) xs ys long e in
+    let split = flat_split (map part_content ps) (map part_content qs) xs ys (simp length-map l) e in
     (map_tells part_content same_part ps qs split.0, split.1)
 
 -- nodes and records in front of other bytes
 graph_split : (ns rs ms ss : List Part) (xs ys : List ℕ) → graph_code ns rs ++ xs ≡ graph_code ms ss ++ ys
     → (ns ≡ ms) × (rs ≡ ss) × (xs ≡ ys)
 graph_split ns rs ms ss xs ys e =
-    let nodes =
-    number_split (length ns) (length ms) _ _ (sym (graph_before ns rs xs) ∙ (e ∙ graph_before ms ss ys)) in
-    let records = number_split (length rs) (length ss) _ _ nodes.1 in
+    let nodes = number_read (length ns) (length ms) _ _ (simp append_assoc at e) in
+    let records = number_read (length rs) (length ss) _ _ nodes.1 in
     let long : length (ns ++ rs) ≡ length (ms ++ ss) =
     omega (arith, length-append ns rs, length-append ms ss, nodes.0, records.0) in
     let split = parts_split (ns ++ rs) (ms ++ ss) xs ys long records.1 in
     let both = halves ns ms rs ss nodes.0 split.0 in
     (both.0, both.1, split.1)
-  where
-    graph_before : (ns rs : List Part) (xs : List ℕ) → graph_code ns rs ++ xs
-        ≡ number_code (length ns) ++ (number_code (length rs) ++ (part_codes (ns ++ rs) ++ xs))
-    graph_before ns rs xs =
-        append_assoc (number_code (length ns)) (number_code (length rs) ++ part_codes (ns ++ rs)) xs
-        ∙ ap (λ l. number_code (length ns) ++ l)
-        (append_assoc (number_code (length rs)) (part_codes (ns ++ rs)) xs)
 
 -- what is left, if something is
 IsLeft : List Part → List Part → Type 0
@@ -76,29 +67,20 @@ is_left [] (r ∷ rs) = inr refl
 is_left (n ∷ ns) rs = inr refl
 
 graph_is_some : (ns rs : List Part) → [] ≡ graph_code ns rs → ⊥
-graph_is_some ns rs e =
-    let long : 0 ≡ length (replicate (length ns / 255) 255
-    ++ (length ns % 255) ∷ (number_code (length rs) ++ part_codes (ns ++ rs))) =
-    ap length (e ∙ number_before (length ns) (number_code (length rs) ++ part_codes (ns ++ rs))) in
-    omega (
-      arith,
-      long,
-      length-append (replicate (length ns / 255) 255)
-          ((length ns % 255) ∷ (number_code (length rs) ++ part_codes (ns ++ rs))),
-    )
+graph_is_some ns rs e = let long = simp length-append at (ap length e) in omega (arith, long)
 
 left_tells : (ns rs ms ss : List Part) → left_code ns rs ≡ left_code ms ss → (ns ≡ ms) × (rs ≡ ss)
 unfolding IsLeft
 left_tells ns rs ms ss e = go (is_left ns rs) (is_left ms ss)
   where
     go : IsLeft ns rs → IsLeft ms ss → (ns ≡ ms) × (rs ≡ ss)
-    go (inl p) (inl q) = (p.0 ∙ sym q.0, p.1 ∙ sym q.1)
-    go (inl p) (inr q) = absurd (graph_is_some ms ss (sym p.2 ∙ (e ∙ q)))
-    go (inr p) (inl q) = absurd (graph_is_some ns rs (sym q.2 ∙ (sym e ∙ p)))
+    go (inl p) (inl q) = (cc, cc)
+    go (inl p) (inr q) = absurd (graph_is_some ms ss (cc (p.2, e, q)))
+    go (inr p) (inl q) = absurd (graph_is_some ns rs (cc (q.2, e, p)))
     go (inr p) (inr q) =
         let split =
         graph_split ns rs ms ss [] []
-        (append-nil (graph_code ns rs) ∙ (sym p ∙ (e ∙ q)) ∙ sym (append-nil (graph_code ms ss))) in
+        (append-nil (graph_code ns rs) ∙ cc (p, e, q) ∙ sym (append-nil (graph_code ms ss))) in
         (split.0, split.1)
 
 -- equal bytes are of equal parts, cut alike
@@ -113,11 +95,9 @@ parts_code_tells f g s t l e =
     left_tells (drop f.nodes s.nodes) (drop f.records s.records) (drop g.nodes t.nodes) (drop g.records t.records)
     held.1 in
     let nodes : s.nodes ≡ t.nodes =
-    sym (take-append-drop f.nodes s.nodes)
-    ∙ ((λ i. front.0 i ++ left.0 i) ∙ take-append-drop g.nodes t.nodes) in
+    cc (take-append-drop f.nodes s.nodes, take-append-drop g.nodes t.nodes, front.0, left.0) in
     let records : s.records ≡ t.records =
-    sym (take-append-drop f.records s.records)
-    ∙ ((λ i. front.1 i ++ left.1 i) ∙ take-append-drop g.records t.records) in
+    cc (take-append-drop f.records s.records, take-append-drop g.records t.records, front.1, left.1) in
     (λ i. record { nodes = nodes i; records = records i; held = held.0 i }, front.0, front.1)
 
 -- ---- states
@@ -138,26 +118,14 @@ same_threads (t ∷ a) (u ∷ b) places replies notes =
 pub state_codes_tell : {Machine Memory Place Form : Type 0} (code twin_code : Memory → List (Option Place) → List ℕ)
     → TellsWholly code twin_code → (s t : State Machine Memory Place Form)
     → state_code code s ≡ state_code twin_code t → s ≡ t
-state_codes_tell {Machine} {Memory} {Place} {Form} code twin_code tells s t e =
-    let here : FormContent (List ℕ) = record {
-      form = code s.memory (places_of s.threads);
-      replies = replies_of s.threads;
-      notes = notes_of s.threads;
-      astray = s.astray;
-    } in
-    let there : FormContent (List ℕ) = record {
-      form = twin_code t.memory (places_of t.threads);
-      replies = replies_of t.threads;
-      notes = notes_of t.threads;
-      astray = t.astray;
-    } in
+state_codes_tell code twin_code tells s t e =
+    let here = state_content code s in
+    let there = state_content twin_code t in
     let steps = number_split s.steps t.steps (content_code (λ l. l) here) (content_code (λ l. l) there) e in
     let same = content_readable (λ l. l) (λ a b h. h) here there steps.1 in
     let replies = ap (λ (c : FormContent (List ℕ)). c.replies) same in
     let many : length (places_of s.threads) ≡ length (places_of t.threads) =
-    length-map s.threads (λ thread. thread.place) ∙ sym (length-map s.threads (λ thread. thread.replies))
-    ∙ ap length replies ∙ length-map t.threads (λ thread. thread.replies)
-    ∙ sym (length-map t.threads (λ thread. thread.place)) in
+    simp length-map (simp length-map at (ap length replies)) in
     let form =
     tells s.memory t.memory (places_of s.threads) (places_of t.threads) many
     (ap (λ (c : FormContent (List ℕ)). c.form) same) in

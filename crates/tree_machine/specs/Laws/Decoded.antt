@@ -8,14 +8,14 @@ use Rattle.std.specs.Option.{option_map}
 use Rattle.std.proofs.lemmas.List.Elements.{recursion_from_All, AllZip-get_or}
 use Rattle.std.proofs.lemmas.Option.{get_or_from_slice_get, same_Some, slice_get-map, slice_get_within}
 use Rattle.sched_program.specs.Program.{Program}
-use Rattle.tree_machine.specs.Alike.{AreStatesAlike, FormContent, notes_of, places_of, replies_of}
+use Rattle.tree_machine.specs.Alike.{AreStatesAlike, FormContent, places_of, replies_of}
 use Rattle.tree_machine.specs.FormCode.{content_code, named_code, state_code}
 use Rattle.tree_machine.specs.InRange.{AreNumbersInRange}
 use Rattle.tree_machine.specs.Pairing.{AreAlike, AreHeldPaired}
 use Rattle.tree_machine.specs.Rules.{Rules, ArePlacesInRange, DecodesForms}
 use Rattle.tree_machine.specs.Step.{Fits}
 use Rattle.tree_machine.specs.Laws.Flat.{number_split}
-use Rattle.tree_machine.specs.Laws.FormCode.{content_readable}
+use Rattle.tree_machine.specs.Laws.FormCode.{content_readable, state_content}
 use Rattle.tree_machine.specs.declared.state.Thread.{Thread}
 use Rattle.tree_machine.specs.declared.state.State.{State}
 
@@ -34,13 +34,12 @@ at_map f xs t x at = slice_get-map f xs t ∙ ap (option_map f) at
 twin_at : {A B : Type 0} (f : A → B) (xs ys : List A) → map f xs ≡ map f ys → (t : ℕ) (x : A) → slice_get xs t ≡ Some x
     → (y : A) × (slice_get ys t ≡ Some y) × (f x ≡ f y)
 twin_at f xs ys e t x at =
-    map_some f (slice_get ys t) (f x)
-    (sym (slice_get-map f ys t) ∙ (ap (λ l. slice_get l t) (sym e) ∙ at_map f xs t x at))
+    map_some f (slice_get ys t) (f x) (cc (slice_get-map f ys t, at_map f xs t x at, e))
 
 same_at : {A B : Type 0} (f : A → B) (xs ys : List A) → map f xs ≡ map f ys → (t : ℕ) (x y : A)
     → slice_get xs t ≡ Some x → slice_get ys t ≡ Some y → f y ≡ f x
 same_at f xs ys e t x y at there =
-    same_Some _ _ (sym (at_map f ys t y there) ∙ (ap (λ l. slice_get l t) (sym e) ∙ at_map f xs t x at))
+    cc (at_map f ys t y there, at_map f xs t x at, e)
 
 zip_at : {A C : Type 0} (P : C → C → Type 0) (f : A → C) (xs ys : List A) → AllZip P (map f xs) (map f ys)
     → (t : ℕ) (x y : A) → slice_get xs t ≡ Some x → slice_get ys t ≡ Some y → P (f x) (f y)
@@ -53,7 +52,7 @@ zip_at P f xs ys z t x y at there =
 all_at : {A B : Type 0} (P : B → Type 0) (f : A → B) (xs : List A) → AllByRecursion P (map f xs) → (t : ℕ) (x : A)
     → slice_get xs t ≡ Some x → P (f x)
 all_at P f [] h t x at = cc
-all_at P f (x ∷ xs) h zero y at = let same : x ≡ y = cc in subst (λ z. P (f z)) same h.0
+all_at P f (x ∷ xs) h zero y at = let same : x ≡ y = cc in rw (← same) h.0
 all_at P f (x ∷ xs) h (suc t) y at = all_at P f xs h.1 t y at
 
 -- both options hold a value, or neither does
@@ -69,42 +68,18 @@ module _ {Machine Memory Place Form : Type 0} (rules : Rules Memory Place)
     (own_code : Memory → List (Option Place) → List ℕ) (decodes : DecodesForms rules form_of form_code own_code)
     (s c : State Machine Memory Place Form) (range : AreNumbersInRange rules s)
     (same : state_code own_code c ≡ named_code form_code form_of s) where
-  pieces : (c.steps ≡ 0)
-      × ◌≡◌ {A = FormContent (List ℕ)}
-      (record {
-        form = own_code c.memory (places_of c.threads);
-        replies = replies_of c.threads;
-        notes = notes_of c.threads;
-        astray = c.astray;
-      })
-      (record {
-        form = form_code (form_of s.memory (places_of s.threads));
-        replies = replies_of s.threads;
-        notes = notes_of s.threads;
-        astray = s.astray;
-      })
+  pieces : (c.steps ≡ 0) × (state_content own_code c ≡ state_content (λ m held. form_code (form_of m held)) s)
   pieces =
-      let whole : FormContent (List ℕ) = record {
-        form = own_code c.memory (places_of c.threads);
-        replies = replies_of c.threads;
-        notes = notes_of c.threads;
-        astray = c.astray;
-      } in
-      let named : FormContent (List ℕ) = record {
-        form = form_code (form_of s.memory (places_of s.threads));
-        replies = replies_of s.threads;
-        notes = notes_of s.threads;
-        astray = s.astray;
-      } in
-      let steps =
-      number_split c.steps 0 (content_code (λ l. l) whole) (content_code (λ l. l) named) same in
+      let whole = state_content own_code c in
+      let named = state_content (λ m held. form_code (form_of m held)) s in
+      let steps = number_split c.steps 0 (content_code (λ l. l) whole) (content_code (λ l. l) named) same in
       (steps.0, content_readable (λ l. l) (λ a b h. h) whole named steps.1)
 
+  same_replies : replies_of c.threads ≡ replies_of s.threads
+  same_replies = ap (λ (x : FormContent (List ℕ)). x.replies) pieces.1
+
   many : length (places_of s.threads) ≡ length (places_of c.threads)
-  many =
-      length-map s.threads (λ thread. thread.place) ∙ sym (length-map s.threads (λ thread. thread.replies))
-      ∙ sym (ap length (ap (λ (x : FormContent (List ℕ)). x.replies) pieces.1))
-      ∙ length-map c.threads (λ thread. thread.replies) ∙ sym (length-map c.threads (λ thread. thread.place))
+  many = simp length-map (simp length-map at (ap length (sym same_replies)))
 
   decoded : rules.IsInRange c.memory × ArePlacesInRange rules c.memory (places_of c.threads)
       × AreAlike rules.pairs s.memory (places_of s.threads) c.memory (places_of c.threads)
@@ -119,7 +94,7 @@ module _ {Machine Memory Place Form : Type 0} (rules : Rules Memory Place)
   pub decoded_alike : AreStatesAlike rules s c
   decoded_alike = record {
     paired = decoded.2;
-    replies = sym (ap (λ (x : FormContent (List ℕ)). x.replies) pieces.1);
+    replies = sym same_replies;
     notes = sym (ap (λ (x : FormContent (List ℕ)). x.notes) pieces.1);
     astray = sym (ap (λ (x : FormContent (List ℕ)). x.astray) pieces.1);
   }
@@ -127,14 +102,10 @@ module _ {Machine Memory Place Form : Type 0} (rules : Rules Memory Place)
   pub decoded_fits : (program : Program) → Fits rules program s → Fits rules program c
   decoded_fits program fits = record {
     memory = decoded.0;
-    thread_count =
-        sym (length-map c.threads (λ thread. thread.replies))
-        ∙ ap length (ap (λ (x : FormContent (List ℕ)). x.replies) pieces.1)
-        ∙ length-map s.threads (λ thread. thread.replies) ∙ fits.thread_count;
+    thread_count = (simp length-map at (ap length same_replies)) ∙ fits.thread_count;
     threads = λ t ops thread ops_at thread_at.
-        let replies = ap (λ (x : FormContent (List ℕ)). x.replies) pieces.1 in
         let notes = ap (λ (x : FormContent (List ℕ)). x.notes) pieces.1 in
-        let twin = twin_at (λ (x : Thread Place). x.replies) c.threads s.threads replies t thread thread_at in
+        let twin = twin_at (λ (x : Thread Place). x.replies) c.threads s.threads same_replies t thread thread_at in
         let twin_fits = fits.threads t ops twin.0 ops_at twin.1 in
         let same_notes : twin.0.notes ≡ thread.notes =
         same_at (λ (x : Thread Place). x.notes) c.threads s.threads notes t thread twin.0 thread_at twin.1 in

@@ -1,10 +1,9 @@
 -- Bytes determine the numbers and the cells that they begin with.
 use Rattle.std.proofs.Common.{◌≡◌, ℕ, zero, suc, ◌+◌, ◌*◌, ◌/◌, ◌%◌, ◌<◌, ◌⊎◌, Bool, true, false, List, []}
-use Rattle.std.proofs.Common.{◌∷◌, ◌++◌, map, length, replicate, refl, sym, ◌∙◌, ap, inl, inr, arith, append_assoc}
+use Rattle.std.proofs.Common.{◌∷◌, ◌++◌, map, length, replicate, refl, ap, inl, inr, arith, append_assoc}
 use Rattle.std.specs.Prelude.{Option, Some, None, nat_lt}
 use Rattle.std.specs.List.{flat_map}
-use Rattle.std.proofs.Math.Nat.{mod-lt, div-add-mod}
-use Rattle.std.proofs.lemmas.Bool.Decides.{nat_tests}
+use Rattle.std.proofs.lemmas.Bool.{ltb-true}
 use Rattle.std.proofs.lemmas.List.{length-map}
 use Rattle.std.proofs.lemmas.List.Concat.{flat_map-cons}
 use Rattle.tree_machine.specs.Cells.{Content}
@@ -22,17 +21,15 @@ digits_split (suc k) (suc l) r s xs ys h g e =
     let split = digits_split k l r s xs ys h g rest in
     (ap suc split.0, split.1, split.2)
 
-pub number_before : (n : ℕ) (xs : List ℕ) → number_code n ++ xs ≡ replicate (n / 255) 255 ++ (n % 255) ∷ xs
-number_before n xs = append_assoc (replicate (n / 255) 255) ((n % 255) ∷ []) xs
+-- a number in bytes in front of others, end to end
+pub number_read : (n m : ℕ) (xs ys : List ℕ) → replicate (n / 255) 255 ++ (n % 255) ∷ xs
+    ≡ replicate (m / 255) 255 ++ (m % 255) ∷ ys → (n ≡ m) × (xs ≡ ys)
+number_read n m xs ys e =
+    let split = digits_split (n / 255) (m / 255) (n % 255) (m % 255) xs ys (omega arith) (omega arith) e in
+    (omega arith, split.2)
 
 pub number_split : (n m : ℕ) (xs ys : List ℕ) → number_code n ++ xs ≡ number_code m ++ ys → (n ≡ m) × (xs ≡ ys)
-number_split n m xs ys e =
-    let split =
-    digits_split (n / 255) (m / 255) (n % 255) (m % 255) xs ys (mod-lt n (omega arith)) (mod-lt m (omega arith))
-    (sym (number_before n xs) ∙ (e ∙ number_before m ys)) in
-    let same : 255 * (n / 255) + n % 255 ≡ 255 * (m / 255) + m % 255 =
-    ap (λ k. 255 * k + n % 255) split.0 ∙ ap (λ r. 255 * (m / 255) + r) split.1 in
-    (sym (div-add-mod n 255) ∙ (same ∙ div-add-mod m 255), split.2)
+number_split n m xs ys e = number_read n m xs ys (simp append_assoc at e)
 
 -- ---- one value after the other
 
@@ -45,15 +42,10 @@ pub each_readable : {A : Type 0} (code : A → List ℕ) → IsReadable code →
 each_readable code readable [] [] xs ys l e = (refl, e)
 each_readable code readable [] (d ∷ ds) xs ys l e = absurd (omega arith)
 each_readable code readable (c ∷ cs) [] xs ys l e = absurd (omega arith)
-each_readable {A} code readable (c ∷ cs) (d ∷ ds) xs ys l e =
-    let first =
-    readable c d (flat_map code cs ++ xs) (flat_map code ds ++ ys) (sym (before c cs xs) ∙ (e ∙ before d ds ys)) in
+each_readable code readable (c ∷ cs) (d ∷ ds) xs ys l e =
+    let first = readable c d _ _ (simp (flat_map-cons code, append_assoc) at e) in
     let rest = each_readable code readable cs ds xs ys (omega arith) first.1 in
-    (ap (λ k. k ∷ cs) first.0 ∙ ap (λ ks. d ∷ ks) rest.0, rest.1)
-  where
-    before : (x : A) (rest : List A) (zs : List ℕ)
-        → flat_map code (x ∷ rest) ++ zs ≡ code x ++ (flat_map code rest ++ zs)
-    before x rest zs = ap (λ l. l ++ zs) (flat_map-cons code x rest) ∙ append_assoc (code x) (flat_map code rest) zs
+    (cc (first.0, rest.0), rest.1)
 
 -- ---- facts
 
@@ -72,36 +64,18 @@ short_or_long (first ∷ more) refs =
   where
     go : (a b c : Bool) → nat_lt first 6 ≡ a → nat_lt (length more) 5 ≡ b → nat_lt refs 8 ≡ c
         → IsShortOrLong (first ∷ more) refs
-    go true true true e f g = inl (
-      first,
-      more,
-      refl,
-      grind (arith, nat_tests),
-      grind (arith, nat_tests),
-      grind (arith, nat_tests),
-      rw (e, f, g) refl,
-    )
+    go true true true e f g = inl
+        (first, more, refl, ltb-true first 6 e, ltb-true (length more) 5 f, ltb-true refs 8 g, rw (e, f, g) refl)
     go true true false e f g = inr (rw (e, f, g) refl)
     go true false c e f g = inr (rw (e, f) refl)
     go false b c e f g = inr (rw e refl)
 
-long_before : (facts : List ℕ) (refs : ℕ) (xs : List ℕ) → long_code facts refs ++ xs
-    ≡ 255 ∷ (number_code (length facts) ++ (number_code refs ++ (flat_map number_code facts ++ xs)))
-long_before facts refs xs =
-    ap (λ l. 255 ∷ l)
-    (append_assoc (number_code (length facts)) (number_code refs ++ flat_map number_code facts) xs
-    ∙ ap (λ l. number_code (length facts) ++ l) (append_assoc (number_code refs) (flat_map number_code facts) xs))
-
 long_split : (fs gs : List ℕ) (r s : ℕ) (xs ys : List ℕ) → long_code fs r ++ xs ≡ long_code gs s ++ ys
     → (fs ≡ gs) × (r ≡ s) × (xs ≡ ys)
 long_split fs gs r s xs ys e =
-    let whole = sym (long_before fs r xs) ∙ (e ∙ long_before gs s ys) in
-    let behind : number_code (length fs) ++ (number_code r ++ (flat_map number_code fs ++ xs))
-    ≡ number_code (length gs) ++ (number_code s ++ (flat_map number_code gs ++ ys)) = cc in
-    let lengths =
-    number_split (length fs) (length gs) (number_code r ++ (flat_map number_code fs ++ xs))
-    (number_code s ++ (flat_map number_code gs ++ ys)) behind in
-    let refs = number_split r s (flat_map number_code fs ++ xs) (flat_map number_code gs ++ ys) lengths.1 in
+    let whole = simp append_assoc at e in
+    let lengths = number_read (length fs) (length gs) _ _ (cc whole) in
+    let refs = number_read r s _ _ lengths.1 in
     let facts = each_readable number_code number_split fs gs xs ys lengths.0 refs.1 in
     (facts.0, refs.0, facts.1)
 
@@ -116,7 +90,7 @@ short_split a b ms ns r s xs ys h1 h2 h3 h4 h5 h6 e =
     let first : a ≡ b = omega arith in
     let lengths : length ms ≡ length ns = omega arith in
     let facts = each_readable number_code number_split ms ns xs ys lengths behind in
-    (ap (λ k. k ∷ ms) first ∙ ap (λ l. b ∷ l) facts.0, refs, facts.1)
+    (cc facts.0, refs, facts.1)
 
 facts_split : (fs gs : List ℕ) (r s : ℕ) (xs ys : List ℕ) → facts_code fs r ++ xs ≡ facts_code gs s ++ ys
     → (fs ≡ gs) × (r ≡ s) × (xs ≡ ys)
@@ -126,21 +100,17 @@ facts_split fs gs r s xs ys e = go (short_or_long fs r) (short_or_long gs s)
     go : IsShortOrLong fs r → IsShortOrLong gs s → (fs ≡ gs) × (r ≡ s) × (xs ≡ ys)
     go (inl p) (inl q) =
         let same =
-        short_split p.0 q.0 p.1 q.1 r s xs ys p.3 p.4 p.5 q.3 q.4 q.5
-        (sym (ap (λ l. l ++ xs) p.6) ∙ (e ∙ ap (λ l. l ++ ys) q.6)) in
-        (p.2 ∙ (same.0 ∙ sym q.2), same.1, same.2)
+        short_split p.0 q.0 p.1 q.1 r s xs ys p.3 p.4 p.5 q.3 q.4 q.5 (rw (p.6, q.6) at e) in
+        (cc (p.2, same.0, q.2), same.1, same.2)
     go (inl p) (inr q) =
-        let heads : (length p.1 + 5 * p.0 + 30 * r) ∷ (flat_map number_code p.1 ++ xs) ≡ long_code gs s ++ ys =
-        sym (ap (λ l. l ++ xs) p.6) ∙ (e ∙ ap (λ l. l ++ ys) q) in
-        let head : length p.1 + 5 * p.0 + 30 * r ≡ 255 = cc in
+        let heads = rw (p.6, q) at e in
+        let head : length p.1 + 5 * p.0 + 30 * r ≡ 255 = cc heads in
         absurd (omega (arith, p.3, p.4, p.5, head))
     go (inr p) (inl q) =
-        let heads : long_code fs r ++ xs ≡ (length q.1 + 5 * q.0 + 30 * s) ∷ (flat_map number_code q.1 ++ ys) =
-        sym (ap (λ l. l ++ xs) p) ∙ (e ∙ ap (λ l. l ++ ys) q.6) in
-        let head : 255 ≡ length q.1 + 5 * q.0 + 30 * s = cc in
+        let heads = rw (p, q.6) at e in
+        let head : 255 ≡ length q.1 + 5 * q.0 + 30 * s = cc heads in
         absurd (omega (arith, q.3, q.4, q.5, head))
-    go (inr p) (inr q) =
-        long_split fs gs r s xs ys (sym (ap (λ l. l ++ xs) p) ∙ (e ∙ ap (λ l. l ++ ys) q))
+    go (inr p) (inr q) = long_split fs gs r s xs ys (rw (p, q) at e)
 
 -- ---- cells
 
@@ -152,7 +122,7 @@ references_equal (r ∷ refs) (s ∷ sefs) e =
     let first = same r s (let head : reference_number r ≡ reference_number s = cc in head) in
     let rest =
     references_equal refs sefs (let tail : map reference_number refs ≡ map reference_number sefs = cc in tail) in
-    ap (λ q. q ∷ refs) first ∙ ap (λ qs. s ∷ qs) rest
+    cc (first, rest)
   where
     same : (r s : Option ℕ) → reference_number r ≡ reference_number s → r ≡ s
     same None None e = refl
@@ -160,21 +130,11 @@ references_equal (r ∷ refs) (s ∷ sefs) e =
     same (Some x) None e = absurd (omega arith)
     same (Some x) (Some y) e = let inner : x ≡ y = omega arith in ap Some inner
 
-cell_before : (c : Content) (xs : List ℕ) → cell_code c ++ xs
-    ≡ facts_code c.facts (length c.refs) ++ (flat_map number_code (map reference_number c.refs) ++ xs)
-cell_before c xs =
-    append_assoc (facts_code c.facts (length c.refs)) (flat_map number_code (map reference_number c.refs)) xs
-
 cell_split : (c d : Content) (xs ys : List ℕ) → cell_code c ++ xs ≡ cell_code d ++ ys → (c ≡ d) × (xs ≡ ys)
 cell_split c d xs ys e =
-    let facts =
-    facts_split c.facts d.facts (length c.refs) (length d.refs)
-    (flat_map number_code (map reference_number c.refs) ++ xs)
-    (flat_map number_code (map reference_number d.refs) ++ ys) (sym (cell_before c xs) ∙ (e ∙ cell_before d ys)) in
-    let lengths : length (map reference_number c.refs) ≡ length (map reference_number d.refs) =
-    length-map c.refs reference_number ∙ (facts.1 ∙ sym (length-map d.refs reference_number)) in
+    let facts = facts_split c.facts d.facts (length c.refs) (length d.refs) _ _ (simp append_assoc at e) in
     let refs = each_readable number_code number_split (map reference_number c.refs) (map reference_number d.refs) xs ys
-    lengths facts.2 in
+    (simp length-map facts.1) facts.2 in
     let same = references_equal c.refs d.refs refs.0 in
     (λ i. record { facts = facts.0 i; refs = same i }, refs.1)
 

@@ -3,26 +3,33 @@ use Rattle.std.specs.Prelude.{◌≡◌, ℕ, ◌/◌, ◌%◌, Bool, true, fals
 use Rattle.std.specs.Prelude.{Some, None, nat_eq}
 use Rattle.std.specs.Cmp.{IsEquivalence}
 use Rattle.std.specs.Cmp.Lexicographic.{pointwise}
-use Rattle.std.specs.List.{flat_map}
 use Rattle.std.proofs.Common.{refl, sym, ◌∙◌, ap, subst, arith, append_assoc}
 use Rattle.std.proofs.lemmas.Cmp.{lists_equiv}
 use Rattle.sched_program.specs.Exact.{IsExact}
 use Rattle.sched_program.specs.Laws.Exact.{nat_exact, list_exact}
 use Rattle.tree_machine.specs.Laws.CellOrder.{nat_equivalence}
-use Rattle.tree_machine.specs.Alike.{FormContent}
+use Rattle.tree_machine.specs.Alike.{FormContent, notes_of, places_of, replies_of}
 use Rattle.tree_machine.specs.Laws.StateExact.{same_answer}
-use Rattle.tree_machine.specs.FormCode.{list_code, replies_code, note_code, astray_code, op_log_code, content_code}
+use Rattle.tree_machine.specs.FormCode.{list_code, replies_code, note_code, astray_code, content_code}
 use Rattle.tree_machine.specs.FormCode.{IsInjective}
 use Rattle.tree_machine.specs.Laws.Flat.{number_split, IsReadable, each_readable}
 use Rattle.tree_machine.specs.Laws.Packed.{replies_least}
 use Rattle.tree_machine.specs.Laws.ShortNotes.{counts_of_number, number_below}
+use Rattle.tree_machine.specs.declared.state.State.{State}
 use Rattle.tree_machine.specs.Packed.{counts_in, is_short, note_number, replies_number}
 
+-- what the bytes of a state are of, behind its steps
+abbrev pub state_content : {Machine Memory Place Form : Type 0} → (Memory → List (Option Place) → List ℕ)
+    → State Machine Memory Place Form → FormContent (List ℕ)
+state_content code s = record {
+  form = code s.memory (places_of s.threads);
+  replies = replies_of s.threads;
+  notes = notes_of s.threads;
+  astray = s.astray;
+}
+
 list_readable : {A : Type 0} (code : A → List ℕ) → IsReadable code → IsReadable (list_code code)
-list_readable code readable cs ds xs ys e =
-    let lengths : length cs ≡ length ds = cc in
-    let rest : flat_map code cs ++ xs ≡ flat_map code ds ++ ys = cc in
-    each_readable code readable cs ds xs ys lengths rest
+list_readable code readable cs ds xs ys e = each_readable code readable cs ds xs ys (cc) (cc)
 
 replies_injective : (a b : List Bool) → replies_number a ≡ replies_number b → a ≡ b
 replies_injective [] [] e = refl
@@ -44,11 +51,7 @@ pub halves : {A : Type 0} (xs us ys vs : List A) → length xs ≡ length us →
 halves [] [] ys vs l e = (refl, e)
 halves [] (u ∷ us) ys vs l e = absurd (omega arith)
 halves (x ∷ xs) [] ys vs l e = absurd (omega arith)
-halves (x ∷ xs) (u ∷ us) ys vs l e =
-    let first : x ≡ u = cc in
-    let behind : xs ++ ys ≡ us ++ vs = cc in
-    let rest = halves xs us ys vs (omega arith) behind in
-    (ap (λ z. z ∷ xs) first ∙ ap (λ l. u ∷ l) rest.0, rest.1)
+halves (x ∷ xs) (u ∷ us) ys vs l e = let rest = halves xs us ys vs (omega arith) (cc) in (cc (e, rest.0), rest.1)
 
 -- a short note and one that is not begin with different bytes
 note_readable : IsReadable note_code
@@ -62,38 +65,26 @@ note_readable cs ds xs ys e = go (is_short cs) (is_short ds) refl refl e
     go : (short other : Bool) → is_short cs ≡ short → is_short ds ≡ other
         → code (is_short cs) cs ++ xs ≡ code (is_short ds) ds ++ ys → (cs ≡ ds) × (xs ≡ ys)
     go true true c d e =
-        let same : code true cs ++ xs ≡ code true ds ++ ys =
-        ap (λ b. code b cs ++ xs) (sym c) ∙ (e ∙ ap (λ b. code b ds ++ ys) d) in
-        let high : note_number cs / 256 ≡ note_number ds / 256 = cc in
-        let low : note_number cs % 256 ≡ note_number ds % 256 = cc in
-        let rest : xs ≡ ys = cc in
+        let same = rw (c, d) at e in
+        let high : note_number cs / 256 ≡ note_number ds / 256 = cc same in
+        let low : note_number cs % 256 ≡ note_number ds % 256 = cc same in
         let number : note_number cs ≡ note_number ds = omega arith in
-        (sym (counts_of_number cs c) ∙ (ap counts_in number ∙ counts_of_number ds d), rest)
+        (sym (counts_of_number cs c) ∙ (ap counts_in number ∙ counts_of_number ds d), cc same)
     go true false c d e =
-        let same : code true cs ++ xs ≡ code false ds ++ ys =
-        ap (λ b. code b cs ++ xs) (sym c) ∙ (e ∙ ap (λ b. code b ds ++ ys) d) in
-        let high : note_number cs / 256 ≡ 255 = cc in
+        let same = rw (c, d) at e in
+        let high : note_number cs / 256 ≡ 255 = cc same in
         absurd (omega (arith, number_below cs c))
     go false true c d e =
-        let same : code false cs ++ xs ≡ code true ds ++ ys =
-        ap (λ b. code b cs ++ xs) (sym c) ∙ (e ∙ ap (λ b. code b ds ++ ys) d) in
-        let high : 255 ≡ note_number ds / 256 = cc in
+        let same = rw (c, d) at e in
+        let high : 255 ≡ note_number ds / 256 = cc same in
         absurd (omega (arith, number_below ds d))
-    go false false c d e =
-        let same : code false cs ++ xs ≡ code false ds ++ ys =
-        ap (λ b. code b cs ++ xs) (sym c) ∙ (e ∙ ap (λ b. code b ds ++ ys) d) in
-        let lengths : length cs ≡ length ds = cc in
-        let rest : cs ++ xs ≡ ds ++ ys = cc in
-        halves cs ds xs ys lengths rest
+    go false false c d e = let same = rw (c, d) at e in halves cs ds xs ys (cc same) (cc same)
 
 astray_readable : IsReadable astray_code
-astray_readable None None xs ys e = (refl, let rest : xs ≡ ys = cc in rest)
-astray_readable None (Some t) xs ys e = let same : ◌≡◌ {A = ℕ} 0 1 = cc in absurd (omega (arith, same))
-astray_readable (Some t) None xs ys e = let same : ◌≡◌ {A = ℕ} 1 0 = cc in absurd (omega (arith, same))
-astray_readable (Some t) (Some u) xs ys e =
-    let same : t ≡ u = cc in
-    let rest : xs ≡ ys = cc in
-    (ap Some same, rest)
+astray_readable None None xs ys e = (refl, cc)
+astray_readable None (Some t) xs ys e = let same : ◌≡◌ {A = ℕ} 0 1 = cc in absurd (omega arith)
+astray_readable (Some t) None xs ys e = let same : ◌≡◌ {A = ℕ} 1 0 = cc in absurd (omega arith)
+astray_readable (Some t) (Some u) xs ys e = (cc, cc)
 
 -- comparing bytes returns what comparing their values returns
 pub codes_same : {A : Type 0} (code : A → List ℕ) → IsInjective code → (E : A → A → Bool) → IsExact E
@@ -105,25 +96,13 @@ codes_same {A} code readable E exact equivalence a b =
     ((lists_equiv nat_equivalence).refl (code a)))
 
 module _ {Form : Type 0} (code : Form → List ℕ) (readable : IsInjective code) where
-  in_row : (replies : List (List Bool)) (notes : List (List (List ℕ))) (astray : Option ℕ) (xs : List ℕ)
-      → op_log_code replies notes astray ++ xs ≡ list_code replies_code replies
-      ++ (list_code (list_code note_code) notes ++ (astray_code astray ++ xs))
-  in_row replies notes astray xs =
-      let first = list_code replies_code replies in
-      let second = list_code (list_code note_code) notes in
-      append_assoc first (second ++ astray_code astray) xs
-      ∙ ap (λ l. first ++ l) (append_assoc second (astray_code astray) xs)
-
   pub content_readable : IsInjective (content_code code)
   content_readable a b e =
       let rest_of = λ (c : FormContent Form). astray_code c.astray ++ code c.form in
       let behind = λ (c : FormContent Form). list_code (list_code note_code) c.notes ++ rest_of c in
-      let whole : list_code replies_code a.replies ++ behind a ≡ list_code replies_code b.replies
-      ++ behind b =
-      sym (in_row a.replies a.notes a.astray (code a.form)) ∙ (e ∙ in_row b.replies b.notes b.astray (code b.form)) in
       let replies =
-      list_readable replies_code replies_readable a.replies b.replies (behind a)
-      (behind b) whole in
+      list_readable replies_code replies_readable a.replies b.replies (behind a) (behind b)
+      (simp append_assoc at e) in
       let notes =
       list_readable (list_code note_code) (list_readable note_code note_readable) a.notes b.notes (rest_of a)
       (rest_of b) replies.1 in

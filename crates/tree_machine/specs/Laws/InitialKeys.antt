@@ -1,6 +1,6 @@
 -- Keys that are inserted into a tree one after the other, each below the leaf that a search for it reaches, leave the
 -- tree in search order.
-use Rattle.std.specs.Prelude.{◌≡◌, ◌≢◌, ℕ, zero, suc, ◌<◌, ◌≤◌, min, max, nat_lt, if◌then◌else◌, List, [], ◌∷◌, fold}
+use Rattle.std.specs.Prelude.{◌≡◌, ◌≢◌, ℕ, zero, suc, ◌<◌, ◌≤◌, min, max, List, [], ◌∷◌, fold}
 use Rattle.std.specs.Prelude.{refl, Option, Some, None, All, AllPairs, slice_index_or}
 use Rattle.std.proofs.Common.{arith, sym, ◌∙◌, ap, subst, ◌⊎◌, inl, inr}
 use Rattle.std.proofs.lemmas.Bool.Decides.{leb_tells}
@@ -9,7 +9,7 @@ use Rattle.tree_machine.specs.declared.search_order.End.{End}
 use Rattle.tree_machine.specs.declared.search_order.Shape.{Shape}
 use Rattle.tree_machine.specs.declared.search_order.Shape.TheVariants.{Leaf, Internal}
 use Rattle.tree_machine.specs.SearchOrder.{IsNodeOrdered, IsOrderedWithin, KeepsSearchOrder, end_of}
-use Rattle.tree_machine.specs.Laws.SearchOrder.{apart, some_level, more_levels, of_node, end_at_leaf, end_below}
+use Rattle.tree_machine.specs.Laws.SearchOrder.{apart, more_levels, of_node, to_node, end_at_leaf, end_below}
 
 -- before and after a key was inserted where the search for it ends: a new node took the place of the leaf
 pub record IsPutIn (before after : ℕ → Option Shape) (key : ℕ) (end : End) : Type 0 where
@@ -28,236 +28,127 @@ pub record IsPutIn (before after : ℕ → Option Shape) (key : ℕ) (end : End)
   pub leaves : (m l r i j x : ℕ) → before end.parent ≡ Some (Internal m l r) → before end.leaf ≡ Some (Leaf j)
       → after x ≡ Some (Leaf i) → (i ≡ key) ⊎ ((y : ℕ) × (before y ≡ Some (Leaf i)))
 
--- node x after a key was inserted below it
+-- node x after a key was inserted below it: the parent and the leaf of before, the node of now, and its order
 record IsGrown (before after : ℕ → Option Shape) (end : End) (levels low high x : ℕ) : Type 0 where
-  parent_key : ℕ
-  parent_left : ℕ
-  parent_right : ℕ
-  parent_is : before end.parent ≡ Some (Internal parent_key parent_left parent_right)
-  over_low : low < parent_key
-  under_high : parent_key < high
-  leaf_key : ℕ
-  leaf_is : before end.leaf ≡ Some (Leaf leaf_key)
-  now_key : ℕ
-  now_left : ℕ
-  now_right : ℕ
-  now_is : after x ≡ Some (Internal now_key now_left now_right)
-  ordered : IsOrderedWithin after (suc levels) low high x
-
--- node x is a leaf, at which the search ends
-record IsReached (before : ℕ → Option Shape) (end : End) (low high parent x : ℕ) : Type 0 where
-  leaf_key : ℕ
-  leaf_is : before x ≡ Some (Leaf leaf_key)
-  from_low : low ≤ leaf_key
-  under_high : leaf_key < high
-  ends : record { parent = parent; leaf = x } ≡ end
+  parent : (m : ℕ) × (l : ℕ) × (r : ℕ) × (before end.parent ≡ Some (Internal m l r)) × (low < m) × (m < high)
+  leaf : (j : ℕ) × (before end.leaf ≡ Some (Leaf j))
+  now : (m : ℕ) × (l : ℕ) × (r : ℕ) × (after x ≡ Some (Internal m l r))
+  ordered : IsOrderedWithin after levels low high x
 
 module _ (before after : ℕ → Option Shape) (key : ℕ) (end : End) (put : IsPutIn before after key end) where
-  frame_at : (kp lp rp : ℕ) → before end.parent ≡ Some (Internal kp lp rp) → (levels : ℕ)
-      → ((low high x : ℕ) → (low < kp → kp < high → ⊥) → IsOrderedWithin before levels low high x
-      → IsOrderedWithin after levels low high x)
-      → (low high x : ℕ) → (low < kp → kp < high → ⊥) → (shape : Option Shape) → before x ≡ shape
-      → IsNodeOrdered (IsOrderedWithin before levels) low high shape → IsOrderedWithin after (suc levels) low high x
-  frame_at kp lp rp is levels f low high x out None e o = absurd o
-  frame_at kp lp rp is levels f low high x out (Some (Leaf k)) e o =
-      let other : x ≡ end.parent → ⊥ =
-      λ same. let e2 : before end.parent ≡ Some (Leaf k) = subst (λ y. before y ≡ Some (Leaf k)) same e in cc in
-      of_node after levels low high x (Some (Leaf k)) (put.kept x (Leaf k) other e) o
-  frame_at kp lp rp is levels f low high x out (Some (Internal m l r)) e o =
-      let a = apart before levels low (min m high) l o.0 in
-      let b = apart before levels (max m low) high r o.1 in
-      let other : x ≡ end.parent → ⊥ = λ same.
-      let e2 : before end.parent ≡ Some (Internal m l r) = subst (λ y. before y ≡ Some (Internal m l r)) same e in
-      let k : kp ≡ m = cc in
-      out (omega arith) (omega arith) in
-      of_node after levels low high x (Some (Internal m l r)) (put.kept x (Internal m l r) other e)
-      (f low (min m high) l (λ p q. out p (omega arith)) o.0, f (max m low) high r (λ p q. out (omega arith) q) o.1)
+  module _ (kp lp rp : ℕ) (is : before end.parent ≡ Some (Internal kp lp rp)) where
+    -- another shape than the parent's stays
+    kept : (x : ℕ) (shape : Shape) → before x ≡ Some shape → (Some shape ≡ Some (Internal kp lp rp) → ⊥)
+        → after x ≡ Some shape
+    kept x shape e other = put.kept x shape (λ same. other (sym e ∙ ap before same ∙ is)) e
 
-  -- what lies apart from the parent stays in order
-  frame : (kp lp rp : ℕ) → before end.parent ≡ Some (Internal kp lp rp) → (levels low high x : ℕ)
-      → (low < kp → kp < high → ⊥) → IsOrderedWithin before levels low high x → IsOrderedWithin after levels low high x
-  frame kp lp rp is zero low high x out o = o
-  frame kp lp rp is (suc levels) low high x out o =
-      frame_at kp lp rp is levels (frame kp lp rp is levels) low high x out (before x) refl o
+    frame_at : (levels : ℕ) → ((low high x : ℕ) → (low < kp → kp < high → ⊥) → IsOrderedWithin before levels low high x
+        → IsOrderedWithin after levels low high x)
+        → (low high x : ℕ) → (low < kp → kp < high → ⊥) → (shape : Option Shape) → before x ≡ shape
+        → IsNodeOrdered (IsOrderedWithin before levels) low high shape → IsOrderedWithin after (suc levels) low high x
+    frame_at levels f low high x out None e o = absurd o
+    frame_at levels f low high x out (Some (Leaf k)) e o =
+        of_node after levels low high x _ (kept x (Leaf k) e (λ same. cc)) o
+    frame_at levels f low high x out (Some (Internal m l r)) e o =
+        let a = apart before levels low (min m high) l o.0 in
+        let b = apart before levels (max m low) high r o.1 in
+        of_node after levels low high x _
+        (kept x (Internal m l r) e (λ same. let k : kp ≡ m = cc in out (omega arith) (omega arith)))
+        (f low (min m high) l (λ p q. out p (omega arith)) o.0, f (max m low) high r (λ p q. out (omega arith) q) o.1)
+
+    -- what lies apart from the parent stays in order
+    frame : (levels low high x : ℕ) → (low < kp → kp < high → ⊥) → IsOrderedWithin before levels low high x
+        → IsOrderedWithin after levels low high x
+    frame zero low high x out o = o
+    frame (suc levels) low high x out o = frame_at levels (frame levels) low high x out (before x) refl o
 
   module _ (fresh : (x j : ℕ) → before x ≡ Some (Leaf j) → key ≢ j) where
-    -- from the left child to its parent
-    grown_left : (n low high x m l r : ℕ) → before x ≡ Some (Internal m l r)
-        → IsOrderedWithin before n low (min m high) l → IsOrderedWithin before n (max m low) high r → low ≤ key
-        → key < m
-        → IsReached before end low (min m high) x l ⊎ IsGrown before after end n low (min m high) l
-        → IsGrown before after end (suc n) low high x
-    grown_left n low high x m l r e o0 o1 from under (inl t) =
-        let a = apart before n low (min m high) l o0 in
-        let b = apart before n (max m low) high r o1 in
-        let some = some_level before n low (min m high) l o0 in
-        let p : x ≡ end.parent = ap (λ z. z.parent) t.ends in
-        let q : l ≡ end.leaf = ap (λ z. z.leaf) t.ends in
-        let here : before end.parent ≡ Some (Internal m l r) = subst (λ y. before y ≡ Some (Internal m l r)) p e in
-        let leaf : before end.leaf ≡ Some (Leaf t.leaf_key) =
-        subst (λ y. before y ≡ Some (Leaf t.leaf_key)) q t.leaf_is in
-        let there : after x ≡ Some (Internal m put.new r) =
-        subst (λ y. after y ≡ Some (Internal m put.new r)) (sym p) (put.left m l r here under) in
-        let over =
-        put.over m l r t.leaf_key low (min m high) here leaf (fresh l t.leaf_key t.leaf_is) from
-        (omega arith) t.from_low t.under_high in
-        let left = more_levels after 2 (suc n) low (min m high) put.new (omega arith) over in
-        let right =
-        more_levels after n (suc n) (max m low) high r (omega arith)
-        (frame m l r here n (max m low) high r (λ u v. absurd (omega arith)) o1) in
-        record {
-          parent_key = m;
-          parent_left = l;
-          parent_right = r;
-          parent_is = here;
-          over_low = omega arith;
-          under_high = omega arith;
-          leaf_key = t.leaf_key;
-          leaf_is = leaf;
-          now_key = m;
-          now_left = put.new;
-          now_right = r;
-          now_is = there;
-          ordered = of_node after (suc n) low high x (Some (Internal m put.new r)) there (left, right);
-        }
-    grown_left n low high x m l r e o0 o1 from under (inr t) =
-        let over = t.over_low in
-        let below = t.under_high in
-        let other : x ≡ end.parent → ⊥ = λ same.
-        let e2 : before end.parent ≡ Some (Internal m l r) = subst (λ y. before y ≡ Some (Internal m l r)) same e in
-        let e3 = t.parent_is in
-        let k : t.parent_key ≡ m = cc in
-        omega arith in
-        let there = put.kept x (Internal m l r) other e in
-        let right =
-        more_levels after n (suc n) (max m low) high r (omega arith)
-        (frame t.parent_key t.parent_left t.parent_right t.parent_is n (max m low) high r
-        (λ u v. absurd (omega arith)) o1) in
-        record {
-          parent_key = t.parent_key;
-          parent_left = t.parent_left;
-          parent_right = t.parent_right;
-          parent_is = t.parent_is;
-          over_low = over;
-          under_high = omega arith;
-          leaf_key = t.leaf_key;
-          leaf_is = t.leaf_is;
-          now_key = m;
-          now_left = l;
-          now_right = r;
-          now_is = there;
-          ordered = of_node after (suc n) low high x (Some (Internal m l r)) there (t.ordered, right);
-        }
+    -- an internal node of so many levels stays in order where the key is inserted below it
+    abbrev Descends : ℕ → ℕ → Type 0
+    Descends levels fuel = (low high parent x m l r : ℕ) → before x ≡ Some (Internal m l r)
+        → IsNodeOrdered (IsOrderedWithin before levels) low high (Some (Internal m l r)) → low ≤ key → key < high
+        → end_of before key (suc fuel) parent x ≡ end → IsGrown before after end (suc (suc levels)) low high x
 
-    -- from the right child to its parent
-    grown_right : (n low high x m l r : ℕ) → before x ≡ Some (Internal m l r)
-        → IsOrderedWithin before n low (min m high) l → IsOrderedWithin before n (max m low) high r → m ≤ key
-        → low ≤ key → key < high
-        → IsReached before end (max m low) high x r ⊎ IsGrown before after end n (max m low) high r
-        → IsGrown before after end (suc n) low high x
-    grown_right n low high x m l r e o0 o1 over from under (inl t) =
-        let a = apart before n low (min m high) l o0 in
-        let b = apart before n (max m low) high r o1 in
-        let some = some_level before n low (min m high) l o0 in
-        let p : x ≡ end.parent = ap (λ z. z.parent) t.ends in
-        let q : r ≡ end.leaf = ap (λ z. z.leaf) t.ends in
-        let here : before end.parent ≡ Some (Internal m l r) = subst (λ y. before y ≡ Some (Internal m l r)) p e in
-        let leaf : before end.leaf ≡ Some (Leaf t.leaf_key) =
-        subst (λ y. before y ≡ Some (Leaf t.leaf_key)) q t.leaf_is in
-        let there : after x ≡ Some (Internal m l put.new) =
-        subst (λ y. after y ≡ Some (Internal m l put.new)) (sym p) (put.right m l r here over) in
-        let both =
-        put.over m l r t.leaf_key (max m low) high here leaf (fresh r t.leaf_key t.leaf_is)
-        (omega arith) under t.from_low t.under_high in
-        let right = more_levels after 2 (suc n) (max m low) high put.new (omega arith) both in
-        let left =
-        more_levels after n (suc n) low (min m high) l (omega arith)
-        (frame m l r here n low (min m high) l (λ u v. absurd (omega arith)) o0) in
-        record {
-          parent_key = m;
-          parent_left = l;
-          parent_right = r;
-          parent_is = here;
-          over_low = omega arith;
-          under_high = omega arith;
-          leaf_key = t.leaf_key;
-          leaf_is = leaf;
-          now_key = m;
-          now_left = l;
-          now_right = put.new;
-          now_is = there;
-          ordered = of_node after (suc n) low high x (Some (Internal m l put.new)) there (left, right);
-        }
-    grown_right n low high x m l r e o0 o1 over from under (inr t) =
-        let above = t.over_low in
-        let below = t.under_high in
-        let other : x ≡ end.parent → ⊥ = λ same.
-        let e2 : before end.parent ≡ Some (Internal m l r) = subst (λ y. before y ≡ Some (Internal m l r)) same e in
-        let e3 = t.parent_is in
-        let k : t.parent_key ≡ m = cc in
-        omega arith in
-        let there = put.kept x (Internal m l r) other e in
-        let left =
-        more_levels after n (suc n) low (min m high) l (omega arith)
-        (frame t.parent_key t.parent_left t.parent_right t.parent_is n low (min m high) l
-        (λ u v. absurd (omega arith)) o0) in
-        record {
-          parent_key = t.parent_key;
-          parent_left = t.parent_left;
-          parent_right = t.parent_right;
-          parent_is = t.parent_is;
-          over_low = omega arith;
-          under_high = below;
-          leaf_key = t.leaf_key;
-          leaf_is = t.leaf_is;
-          now_key = m;
-          now_left = l;
-          now_right = r;
-          now_is = there;
-          ordered = of_node after (suc n) low high x (Some (Internal m l r)) there (left, t.ordered);
-        }
+    -- from the child on the way of the search to its parent x, which has it on the left or on the right
+    module _ (n f low high x m lo hi child : ℕ) (left right : ℕ → ℕ) (step : Descends n f)
+        (e : before x ≡ Some (Internal m (left child) (right child)))
+        (inside : (low ≤ lo) × (lo ≤ m) × (m ≤ hi) × (hi ≤ high) × (low < m) × (m < high))
+        (beside : lo < m → m < hi → ⊥) (from : lo ≤ key) (under : key < hi)
+        (placed : before end.parent ≡ Some (Internal m (left child) (right child))
+        → after end.parent ≡ Some (Internal m (left put.new) (right put.new)))
+        (ordered : (kp lp rp c : ℕ) → before end.parent ≡ Some (Internal kp lp rp) → lo ≤ kp → kp ≤ hi
+        → IsOrderedWithin after (suc (suc n)) lo hi c
+        → IsNodeOrdered (IsOrderedWithin after (suc (suc n))) low high (Some (Internal m (left c) (right c)))) where
+      grown_by : (shape : Option Shape) → before child ≡ shape → IsNodeOrdered (IsOrderedWithin before n) lo hi shape
+          → end_of before key (suc f) x child ≡ end → IsGrown before after end (suc (suc (suc n))) low high x
+      grown_by None is o ends = absurd o
+      grown_by (Some (Leaf j)) is o ends =
+          let here_is : record { parent = x; leaf = child } ≡ end =
+          sym (end_at_leaf before key (suc f) x child j is) ∙ ends in
+          let parent : x ≡ end.parent = ap (λ z. z.parent) here_is in
+          let here = sym (ap before parent) ∙ e in
+          let leaf = sym (ap before (ap (λ z. z.leaf) here_is)) ∙ is in
+          let there = ap after parent ∙ placed here in
+          let over = put.over m _ _ j lo hi here leaf (fresh child j is) from under o.0 o.1 in
+          record {
+            parent = (m, left child, right child, here, inside.4, inside.5);
+            leaf = (j, leaf);
+            now = (m, left put.new, right put.new, there);
+            ordered = of_node after (suc (suc n)) low high x _ there
+                (ordered m _ _ put.new here inside.1 inside.2
+                (more_levels after 2 (suc (suc n)) lo hi put.new (omega arith) over));
+          }
+      grown_by (Some (Internal j l r)) is o ends =
+          let t = step lo hi x child j l r is o from under ends in
+          let p = t.parent in
+          let there =
+          kept p.0 p.1 p.2 p.3 x _ e (λ same. let k : m ≡ p.0 = cc in beside (omega arith) (omega arith)) in
+          record {
+            parent = (p.0, p.1, p.2, p.3, omega arith, omega arith);
+            leaf = t.leaf;
+            now = (m, left child, right child, there);
+            ordered = of_node after (suc (suc n)) low high x _ there
+                (ordered p.0 p.1 p.2 child p.3 (omega arith) (omega arith) t.ordered);
+          }
 
-    descend_at : (n f : ℕ) → n ≤ f
-        → ((low high parent x : ℕ) → IsOrderedWithin before n low high x → low ≤ key → key < high
-        → end_of before key f parent x ≡ end → IsReached before end low high parent x
-        ⊎ IsGrown before after end n low high x)
-        → (low high parent x : ℕ) (shape : Option Shape) → before x ≡ shape
-        → IsNodeOrdered (IsOrderedWithin before n) low high shape → low ≤ key → key < high
-        → end_of before key (suc f) parent x ≡ end
-        → IsReached before end low high parent x ⊎ IsGrown before after end (suc n) low high x
-    descend_at n f le step low high parent x None e o from under ends = absurd o
-    descend_at n f le step low high parent x (Some (Leaf k)) e o from under ends =
-        inl (record {
-          leaf_key = k;
-          leaf_is = e;
-          from_low = o.0;
-          under_high = o.1;
-          ends = sym (end_at_leaf before key (suc f) parent x k e) ∙ ends;
-        })
-    descend_at n f le step low high parent x (Some (Internal m l r)) e o from under ends =
-        let on : end_of before key f x (if nat_lt key m then l else r) ≡ end =
-        sym (end_below before key f parent x m l r e) ∙ ends in
+    descend_by : (n f : ℕ) → Descends n f → Descends (suc n) (suc f)
+    descend_by n f step low high parent x m l r e o from under ends =
+        let a = apart before (suc n) low (min m high) l o.0 in
+        let b = apart before (suc n) (max m low) high r o.1 in
+        let inside : (low < m) × (m < high) = (omega arith, omega arith) in
+        let on = sym (end_below before key (suc f) parent x m l r e) ∙ ends in
         elim (leb_tells (suc key) m) [
-          | inl t ↦ inr
-              (grown_left n low high x m l r e o.0 o.1 from t.1
-              (step low (min m high) x l o.0 from (omega arith)
-              (subst (λ b. end_of before key f x (if b then l else r) ≡ end) t.0 on)))
-          | inr t ↦ inr
-              (grown_right n low high x m l r e o.0 o.1 (omega arith) from under
-              (step (max m low) high x r o.1 (omega arith) under
-              (subst (λ b. end_of before key f x (if b then l else r) ≡ end) t.0 on)))
+          | inl t ↦ grown_by n f low high x m low (min m high) l (λ c. c) (λ c. r) step e
+              (omega arith, omega arith, omega arith, omega arith, omega arith, omega arith) (λ u v. omega arith)
+              from (omega arith) (λ here. put.left m l r here t.1)
+              (λ kp lp rp c is u v oc. (
+                oc,
+                more_levels after (suc n) (suc (suc n)) (max m low) high r (omega arith)
+                    (frame kp lp rp is (suc n) (max m low) high r (λ p q. omega arith) o.1),
+              ))
+              (before l) refl o.0 (rw t.0 at on)
+          | inr t ↦ grown_by n f low high x m (max m low) high r (λ c. l) (λ c. c) step e
+              (omega arith, omega arith, omega arith, omega arith, omega arith, omega arith) (λ u v. omega arith)
+              (omega arith) under (λ here. put.right m l r here (omega arith))
+              (λ kp lp rp c is u v oc. (
+                more_levels after (suc n) (suc (suc n)) low (min m high) l (omega arith)
+                    (frame kp lp rp is (suc n) low (min m high) l (λ p q. omega arith) o.0),
+                oc,
+              ))
+              (before r) refl o.1 (rw t.0 at on)
         ]
 
-    -- the tree at node x stays in order where the key is inserted below it
-    descend : (levels fuel low high parent x : ℕ) → levels ≤ fuel → IsOrderedWithin before levels low high x → low ≤ key
-        → key < high → end_of before key fuel parent x ≡ end
-        → IsReached before end low high parent x ⊎ IsGrown before after end levels low high x
-    descend zero fuel low high parent x le o from under ends = absurd o
-    descend (suc n) zero low high parent x le o from under ends = absurd (omega arith)
-    descend (suc n) (suc f) low high parent x le o from under ends =
-        descend_at n f (omega arith)
-        (λ low high parent x o from under ends. descend n f low high parent x (omega arith) o from under ends) low
-        high parent x (before x) refl o from under ends
+    descend : (n f : ℕ) → n ≤ f → Descends n f
+    descend zero f le = λ _ _ _ _ _ _ _ _ o _ _ _. absurd o.0
+    descend (suc n) zero le = absurd (omega arith)
+    descend (suc n) (suc f) le = descend_by n f (descend n f (omega arith))
+
+    -- the tree stays in order
+    root_grown : (levels m l r : ℕ) → before 0 ≡ Some (Internal m l r) → IsOrderedWithin before levels 0 103 0
+        → key < 103 → end_of before key levels 0 0 ≡ end → IsGrown before after end (suc levels) 0 103 0
+    root_grown zero m l r e o under ends = absurd o
+    root_grown (suc n) m l r e o under ends =
+        descend n n (omega arith) 0 103 0 0 m l r e (to_node before n 0 103 0 _ e o) (omega arith) under ends
 
 -- memories into which keys are inserted, one after the other
 module _ {Memory : Type 0} (shapes : Memory → ℕ → Option Shape) (count : Memory → ℕ) (put_in : Memory → ℕ → Memory)
@@ -273,41 +164,24 @@ module _ {Memory : Type 0} (shapes : Memory → ℕ → Option Shape) (count : M
     pub root : shapes memory 0 ≡ Some (Internal root_key root_left root_right)
     pub absent : (x j : ℕ) → shapes memory x ≡ Some (Leaf j) → All (λ key. key ≢ j) keys
 
-  not_reached : (before : ℕ → Option Shape) (end : End) (low high parent x m l r : ℕ) → before x ≡ Some (Internal m l r)
-      → IsReached before end low high parent x → ⊥
-  not_reached before end low high parent x m l r e t = let is = t.leaf_is in cc
-
-  grown : (before after : ℕ → Option Shape) (end : End) (levels low high parent x m l r : ℕ)
-      → before x ≡ Some (Internal m l r)
-      → IsReached before end low high parent x ⊎ IsGrown before after end levels low high x
-      → IsGrown before after end levels low high x
-  grown before after end levels low high parent x m l r e (inl t) =
-      absurd (not_reached before end low high parent x m l r e t)
-  grown before after end levels low high parent x m l r e (inr t) = t
-
   ready : (memory : Memory) (key : ℕ) (keys : List ℕ) → IsReady memory (key ∷ keys) → IsUserKey key
       → All (λ other. other ≢ key) keys → IsReady (put_in memory key) keys
   ready memory key keys h user apart_from =
-      let before = shapes memory in
-      let after = shapes (put_in memory key) in
-      let end = end_of before key (count memory) 0 0 in
       let put = puts memory key in
-      let t = grown before after end (count memory) 0 103 0 0 h.root_key h.root_left h.root_right h.root
-      (descend before after key end put (λ x j is. h.absent x j is zero 0 (omega arith)) (count memory)
-      (count memory) 0 103 0 0 (omega arith) h.ordered (omega arith) (omega arith) refl) in
+      let t =
+      root_grown (shapes memory) (shapes (put_in memory key)) key _ put
+      (λ x j is. h.absent x j is zero 0 (omega arith)) (count memory) _ _ _ h.root h.ordered (omega arith) refl in
+      let p = t.parent in
       record {
-        ordered =
-            more_levels after (suc (count memory)) (count (put_in memory key)) 0 103 0 (grows memory key) t.ordered;
-        root_key = t.now_key;
-        root_left = t.now_left;
-        root_right = t.now_right;
-        root = t.now_is;
-        absent =
-            λ x j is i d below. elim
-            (put.leaves t.parent_key t.parent_left t.parent_right j t.leaf_key x t.parent_is t.leaf_is is) [
-              | inl same ↦ subst (λ k. slice_index_or keys i d ≢ k) (sym same) (apart_from i d below)
-              | inr old ↦ h.absent old.0 j old.1 (suc i) d (omega arith)
-            ];
+        ordered = more_levels _ (suc (count memory)) _ 0 103 0 (grows memory key) t.ordered;
+        root_key = t.now.0;
+        root_left = t.now.1;
+        root_right = t.now.2;
+        root = t.now.3;
+        absent = λ x j is i d below. elim (put.leaves p.0 p.1 p.2 j t.leaf.0 x p.3 t.leaf.1 is) [
+          | inl same ↦ subst (λ k. slice_index_or keys i d ≢ k) (sym same) (apart_from i d below)
+          | inr old ↦ h.absent old.0 j old.1 (suc i) d (omega arith)
+        ];
       }
 
   -- user keys, each once, leave the tree in search order

@@ -1,6 +1,6 @@
 -- Lists of the nodes and of the records that are met: distinct, in range, and paired where the orders are.
 use Rattle.std.proofs.Common.{◌≡◌, ℕ, zero, suc, ◌+◌, ◌-◌, ◌<◌, ◌≤◌, Bool, true, false, cond, ◌||◌, ◌&&◌}
-use Rattle.std.proofs.Common.{List, [], ◌∷◌, ◌++◌, map, length, refl, sym, ◌∙◌, ap, ap₂, subst, arith, append-nil}
+use Rattle.std.proofs.Common.{List, [], ◌∷◌, ◌++◌, map, length, refl, sym, ◌∙◌, ap, ap₂, arith, append-nil}
 use Rattle.std.specs.Prelude.{slice_get, Option, Some, None, nat_eq, nat_lt, nat_le}
 use Rattle.std.specs.List.{AllZip, AllByRecursion, filter, list_any, zip, IsDistinct}
 use Rattle.std.specs.Option.{option_and_then}
@@ -17,7 +17,7 @@ use Rattle.tree_machine.specs.Cells.{IsPairedOrNone, place_in}
 use Rattle.tree_machine.specs.Pairing.{IsOneToOne, IsAmong}
 use Rattle.tree_machine.specs.Graphs.{numbers_from}
 use Rattle.tree_machine.specs.Canonical.{nodes_met, records_met, as_cells}
-use Rattle.tree_machine.specs.Laws.CellLists.{distinct_none, rec_weaker}
+use Rattle.tree_machine.specs.Laws.CellLists.{distinct_none, mapped_distinct, rec_weaker}
 use Rattle.tree_machine.specs.Laws.CellOrder.{Has, HasAll}
 use Rattle.tree_machine.specs.Laws.CellSteps.{same_tests}
 use Rattle.tree_machine.specs.Laws.CellPlaces.{among_at, at_among, place_at, place_from_has, get_place}
@@ -26,9 +26,8 @@ use Rattle.tree_machine.specs.Laws.CellPlaces.{among_at, at_among, place_at, pla
 
 pub number_at : (a n i : ℕ) → i < n → slice_get (numbers_from a n) i ≡ Some (a + i)
 number_at a zero i l = absurd (omega arith)
-number_at a (suc n) zero l = let same : a ≡ a + 0 = omega arith in ap Some same
-number_at a (suc n) (suc i) l =
-    let same : suc a + i ≡ a + suc i = omega arith in number_at (suc a) n i (omega arith) ∙ ap Some same
+number_at a (suc n) zero l = ap Some (omega arith)
+number_at a (suc n) (suc i) l = number_at (suc a) n i (omega arith) ∙ ap Some (omega arith)
 
 -- the numbers of a list, each with its place
 abbrev pub places : List ℕ → List (ℕ × ℕ)
@@ -36,19 +35,17 @@ places xs = zip xs (numbers_from 0 (length xs))
 
 pub among_places : (xs : List ℕ) (x k : ℕ) → slice_get xs k ≡ Some x → IsAmong (places xs) x k
 among_places xs x k h =
-    let same : 0 + k ≡ k = omega arith in
     among_at xs (numbers_from 0 (length xs)) k x k h
-    (number_at 0 (length xs) k (slice_get_within xs k x h) ∙ ap Some same)
+    (number_at 0 (length xs) k (slice_get_within xs k x h) ∙ ap Some (omega arith))
 
 pub places_among : (xs : List ℕ) (x k : ℕ) → IsAmong (places xs) x k → slice_get xs k ≡ Some x
 places_among xs x k h =
     let p = at_among xs (numbers_from 0 (length xs)) x k h in
     let at : slice_get (numbers_from 0 (length xs)) p.0 ≡ Some (0 + p.0) =
     number_at 0 (length xs) p.0 (slice_get_within xs p.0 x p.1) in
-    let found : Some (0 + p.0) ≡ Some k = sym at ∙ p.2 in
-    let is : 0 + p.0 ≡ k = cc in
+    let is : 0 + p.0 ≡ k = cc (at, p.2) in
     let same : p.0 ≡ k = omega arith in
-    subst (λ j. slice_get xs j ≡ Some x) same p.1
+    rw (← same) p.1
 
 pub places_one : (xs : List ℕ) → IsDistinct nat_eq xs → IsOneToOne (IsAmong (places xs))
 places_one xs d x y a b h g =
@@ -56,8 +53,8 @@ places_one xs d x y a b h g =
     let bt = places_among xs a b g in
     let px : place_in xs x ≡ Some y = place_at xs d y x at in
     let pa : place_in xs a ≡ Some b = place_at xs d b a bt in (
-      λ e. (let k : Some y ≡ Some b = sym px ∙ (ap (place_in xs) e ∙ pa) in cc),
-      λ e. (let k : Some x ≡ Some a = sym at ∙ (ap (slice_get xs) e ∙ bt) in cc),
+      λ e. cc (px, pa, e),
+      λ e. cc (at, bt, e),
     )
 
 -- names that are all in a list are paired with their places
@@ -67,8 +64,7 @@ refs_placed xs [] h = tt
 refs_placed xs (None ∷ refs) h = (tt, refs_placed xs refs h)
 refs_placed xs (Some x ∷ refs) h =
     let k = place_from_has xs x h.0 in (
-      subst (IsPairedOrNone (IsAmong (places xs)) (Some x)) (sym k.1)
-          (among_places xs x k.0 (get_place xs x k.0 k.1)),
+      rw k.1 (among_places xs x k.0 (get_place xs x k.0 k.1)),
       refs_placed xs refs h.1,
     )
 
@@ -97,12 +93,11 @@ has_filter p xs x h t = filter_any p xs x ∙ ap₂ ◌&&◌ t h
 
 pub filter_all : (p : ℕ → Bool) (xs : List ℕ) → AllByRecursion (λ x. p x ≡ true) xs → filter p xs ≡ xs
 filter_all p [] h = refl
-filter_all p (x ∷ xs) h =
-    ap (λ b. cond b (x ∷ filter p xs) (filter p xs)) h.0 ∙ ap (λ l. x ∷ l) (filter_all p xs h.1)
+filter_all p (x ∷ xs) h = rw (h.0, filter_all p xs h.1) refl
 
 pub filter_none : (p : ℕ → Bool) (xs : List ℕ) → AllByRecursion (λ x. p x ≡ false) xs → filter p xs ≡ []
 filter_none p [] h = refl
-filter_none p (x ∷ xs) h = ap (λ b. cond b (x ∷ filter p xs) (filter p xs)) h.0 ∙ filter_none p xs h.1
+filter_none p (x ∷ xs) h = rw h.0 (filter_none p xs h.1)
 
 -- tests that agree on pairs keep pairs
 pub filter_zip : (Q : ℕ → ℕ → Type 0) (p q : ℕ → Bool) → ((x y : ℕ) → Q x y → p x ≡ q y) → (xs ys : List ℕ)
@@ -151,22 +146,9 @@ test_before n r x l = grind (arith, nat_tests)
 pub test_behind : (n r x : ℕ) → n + r ≤ x → (nat_le n x && nat_lt x (n + r)) ≡ false
 test_behind n r x l = grind (arith, nat_tests)
 
-lowered_apart : (n x : ℕ) → n ≤ x → (xs : List ℕ) → AllByRecursion (λ y. n ≤ y) xs
-    → AllByRecursion (λ y. nat_eq x y ≡ false) xs
-    → AllByRecursion (λ y. nat_eq (x - n) y ≡ false) (map (λ x. x - n) xs)
-lowered_apart n x l [] a h = tt
-lowered_apart n x l (y ∷ xs) a h = (
-  same_tests (x - n) x (y - n) y (λ e. omega (arith, e, a.0), λ e. ap (λ z. z - n) e) ∙ h.0,
-  lowered_apart n x l xs a.1 h.1,
-)
-
 lowered_distinct : (n : ℕ) (xs : List ℕ) → AllByRecursion (λ x. n ≤ x) xs → IsDistinct nat_eq xs
     → IsDistinct nat_eq (map (λ x. x - n) xs)
-lowered_distinct n [] a d = distinct_none
-lowered_distinct n (x ∷ xs) a d =
-    IsDistinct-cons nat_eq (x - n) (map (λ x. x - n) xs)
-    (lowered_apart n x a.0 xs a.1 (IsDistinct-head nat_eq x xs d))
-    (lowered_distinct n xs a.1 (IsDistinct-tail nat_eq x xs d))
+lowered_distinct n = mapped_distinct (λ x. n ≤ x) (λ x. x - n) (λ x y p q e. omega (arith, e, p, q))
 
 lowered_any : (n : ℕ) (xs : List ℕ) (y : ℕ) → AllByRecursion (λ x. n ≤ x) xs
     → list_any (nat_eq y) (map (λ x. x - n) xs) ≡ list_any (nat_eq (n + y)) xs
@@ -252,31 +234,19 @@ module _ (n r : ℕ) where
 
       back : (ys : List ℕ) → map (λ x. x - n) (map (λ y. n + y) ys) ≡ ys
       back [] = refl
-      back (y ∷ ys) = let first : n + y - n ≡ y = omega arith in let rest = back ys in cc
+      back (y ∷ ys) = let first : n + y - n ≡ y = omega arith in cc (back ys)
 
   -- in front of other cells
   pub nodes_first : (nodes records zs : List ℕ) → AllByRecursion (λ x. x < n) nodes
       → nodes_met n (as_cells n nodes records ++ zs) ≡ nodes ++ nodes_met n zs
   nodes_first nodes records zs h =
-      let p : ℕ → Bool = λ x. nat_lt x n in
-      filter-append p (as_cells n nodes records) zs
-      ∙ ap (λ l. l ++ nodes_met n zs)
-      (filter-append p nodes (map (λ y. n + y) records)
-      ∙ ap (λ l. filter p nodes ++ l) (nodes_of_records records)
-      ∙ append-nil (filter p nodes)
-      ∙ filter_all p nodes (rec_weaker (λ x. x < n) (λ x. nat_lt x n ≡ true) (λ x l. test_node n x l) nodes h))
+      let all =
+      filter_all (λ x. nat_lt x n) nodes
+      (rec_weaker (λ x. x < n) (λ x. nat_lt x n ≡ true) (λ x l. test_node n x l) nodes h) in
+      simp (filter-append, nodes_of_records records, append-nil, all) refl
 
   pub records_first : (nodes records zs : List ℕ) → AllByRecursion (λ x. x < n) nodes
       → AllByRecursion (λ y. y < r) records
       → records_met n r (as_cells n nodes records ++ zs) ≡ records ++ records_met n r zs
   records_first nodes records zs h g =
-      join (as_cells n nodes records) zs
-      ∙ ap (λ l. l ++ records_met n r zs)
-      (join nodes (map (λ y. n + y) records)
-      ∙ ap (λ l. l ++ records_met n r (map (λ y. n + y) records)) (records_of_nodes nodes h)
-      ∙ records_of_records records g)
-    where
-      join : (xs ys : List ℕ) → records_met n r (xs ++ ys) ≡ records_met n r xs ++ records_met n r ys
-      join xs ys =
-          let p : ℕ → Bool = λ x. nat_le n x && nat_lt x (n + r) in
-          ap (map (λ x. x - n)) (filter-append p xs ys) ∙ map-append (λ x. x - n) (filter p xs) (filter p ys)
+      simp (filter-append, map-append, records_of_nodes nodes h, records_of_records records g) refl

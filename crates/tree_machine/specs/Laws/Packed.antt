@@ -1,6 +1,6 @@
 -- Replies and notes are read back from their numbers.
 use Rattle.std.proofs.Common.{◌≡◌, ℕ, zero, suc, ◌+◌, ◌*◌, ◌/◌, ◌%◌, ◌^◌, ◌<◌, ◌≤◌, ◌⊎◌, inl, inr, Bool, true}
-use Rattle.std.proofs.Common.{false, List, [], ◌∷◌, ◌++◌, length, refl, sym, ◌∙◌, ap, subst, arith, eq-eqb}
+use Rattle.std.proofs.Common.{false, List, [], ◌∷◌, ◌++◌, length, refl, sym, ap, arith, eq-eqb}
 use Rattle.std.proofs.Common.{length-append}
 use Rattle.std.specs.Prelude.{nat_eq, nat_le, slice_get, Some, if◌then◌else◌}
 use Rattle.std.specs.Int.{bit_at}
@@ -99,13 +99,10 @@ digit_at (suc most) n i within = go (λ k w. digit_at most (n / 2) k w) i (leb_t
         → i < length (digits_of (suc most) n)
         → slice_get (digits_of (suc most) n) i ≡ Some (nat_eq (bit_at n i) 1)
     go rests i (inl t) within =
-        let none : i < 0 =
-        subst (λ b. i < length (if b then [] else nat_eq (n % 2) 1 ∷ digits_of most (n / 2))) t.0 within in
-        absurd (omega arith)
+        let none : i < 0 = rw t.0 at within in absurd (omega arith)
     go rests zero (inr t) within = rw (t.0, bit_at_lowest n) refl
     go rests (suc i) (inr t) within =
-        let rest : suc i < suc (length (digits_of most (n / 2))) =
-        subst (λ b. suc i < length (if b then [] else nat_eq (n % 2) 1 ∷ digits_of most (n / 2))) t.0 within in
+        let rest : suc i < suc (length (digits_of most (n / 2))) = rw t.0 at within in
         rw (t.0, bit_at-suc n i) (rests i (omega arith))
 
 -- ---- one more reply
@@ -157,13 +154,8 @@ pub reply_pushed : (n : ℕ) (reply : Bool) → 0 < n → n < 128 → length (re
     ≡ replies_in n ++ reply ∷ []
 reply_pushed n reply least below bounded =
     let replies = replies_in n in
-    let is_number : replies_number replies ≡ n = replies_back n least below in
-    let more : replies_number (replies ++ reply ∷ [])
-    ≡ n + (if reply then 2 * 2 ^ length replies else 2 ^ length replies) =
-    one_reply_more replies reply
-    ∙ ap (λ k. k + (if reply then 2 * 2 ^ length replies else 2 ^ length replies)) is_number in
-    ap replies_in (sym more) ∙ replies_of_number (replies ++ reply ∷ [])
-    (omega (arith, length-append replies (reply ∷ [])))
+    let more = rw (replies_back n least below) at (one_reply_more replies reply) in
+    rw (← more) (replies_of_number (replies ++ reply ∷ []) (omega (arith, length-append replies (reply ∷ []))))
 
 -- and it is one of replies
 pub pushed_below : (n : ℕ) (reply : Bool) → 0 < n → n < 128 → length (replies_in n) < 6
@@ -183,10 +175,7 @@ pub pushed : (n more count : ℕ) (reply : Bool) (old : List Bool) → replies_i
     → length old < 6 → count ≡ length old → more ≡ (if reply then 2 * 2 ^ count else 2 ^ count)
     → (n + more < 128) × (replies_in (n + more) ≡ old ++ reply ∷ [])
 pushed n more count reply old is least below bounded counted added =
-    let same : count ≡ length (replies_in n) = counted ∙ ap length (sym is) in
-    let more_is : more ≡ (if reply then 2 * 2 ^ length (replies_in n) else 2 ^ length (replies_in n)) =
-    added ∙ ap (λ k. if reply then 2 * 2 ^ k else 2 ^ k) same in
-    let room : length (replies_in n) < 6 = subst (λ (l : List Bool). length l < 6) (sym is) bounded in (
-      subst (λ k. n + k < 128) (sym more_is) (pushed_below n reply least below room),
-      ap (λ k. replies_in (n + k)) more_is ∙ (reply_pushed n reply least below room ∙ ap (λ l. l ++ reply ∷ []) is),
+    let room : length (replies_in n) < 6 = rw is bounded in (
+      rw (added, counted, ← is) (pushed_below n reply least below room),
+      rw (added, counted, ← is) (reply_pushed n reply least below room),
     )

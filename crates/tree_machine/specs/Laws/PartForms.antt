@@ -38,8 +38,8 @@ module _ {Memory Place : Type 0} (parts : Memory → List (Option Place) → Par
     pub part_forms_exact : AreFormsExact rules (λ memory held. canonical_code fixed (parts memory held))
     part_forms_exact memory other held others h places k other_places many =
         let codes =
-        canonical_codes_exactly fixed (parts memory held) (parts other others) (in_range memory held h places)
-        (in_range other others k other_places) (same_count memory other held others many) in
+        canonical_codes_exactly fixed _ _ (in_range memory held h places) (in_range other others k other_places)
+        (same_count memory other held others many) in
         let alike = exactly memory other held others in
         ((λ e. alike.0 (codes.0 e)), (λ a. codes.1 (alike.1 a)))
 
@@ -50,10 +50,6 @@ module _ {Memory Place : Type 0} (parts : Memory → List (Option Place) → Par
     parts_decode back front memory other held others h places many e =
         let here = in_range memory held h places in
         let long = same_count memory other held others many in
-        let there =
-        back other others (decoded_in_range fixed (parts memory held) (parts other others) front here long e) in (
-          there.0,
-          there.1,
-          (exactly memory other held others).0
-              (decoded_paired fixed (parts memory held) (parts other others) front here long e),
-        )
+        let there = back other others (decoded_in_range fixed (parts memory held) _ front here long e) in
+        let alike = exactly memory other held others in
+        (there.0, there.1, alike.0 (decoded_paired fixed (parts memory held) _ front here long e))

@@ -1,14 +1,12 @@
 -- Parts that are renamed by nodes and records: paired with those they come from, in range, and the same where these
 -- are paired.
-use Rattle.std.proofs.Common.{◌≡◌, ℕ, zero, suc, ◌+◌, ◌<◌, ◌≤◌, List}
-use Rattle.std.proofs.Common.{[], ◌∷◌, map, length, refl, sym, ◌∙◌, ap, subst}
-use Rattle.std.proofs.Common.{zero-add}
+use Rattle.std.proofs.Common.{◌≡◌, ℕ, ◌<◌, ◌≤◌, List, [], ◌∷◌, map, length, refl, ◌∙◌, ap, get_or, zero-add}
 use Rattle.std.specs.Prelude.{slice_get, Option, Some, None, nat_eq, IfSome}
 use Rattle.std.specs.List.{AllZip, All, AllByRecursion, IsDistinct, zip}
 use Rattle.std.specs.Option.{option_and_then}
 use Rattle.std.proofs.lemmas.List.{length-map}
-use Rattle.std.proofs.lemmas.List.Elements.{All-from_recursion}
-use Rattle.std.proofs.lemmas.Option.{slice_get_within}
+use Rattle.std.proofs.lemmas.List.Elements.{All-map}
+use Rattle.std.proofs.lemmas.Option.{slice_get-map, slice_get_within}
 use Rattle.tree_machine.specs.Cells.{place_in}
 use Rattle.tree_machine.specs.Pairing.{IsAmong}
 use Rattle.tree_machine.specs.Graphs.{numbers_from}
@@ -33,21 +31,39 @@ pub record AreMet (fixed : ℕ) (s : Parts) (nodes records : List ℕ) : Type 0 
   pub nodes_closed : (x : ℕ) → Has nodes x → IsPartMet nodes records (part_at s.nodes x)
   pub records_closed : (y : ℕ) → Has records y → IsPartMet nodes records (part_at s.records y)
 
+-- a number below n is at its own place among them
+pub own_number : {n : ℕ} (x : ℕ) → x < n → slice_get (numbers_from 0 n) x ≡ Some x
+own_number {n} x l = number_at 0 n x l ∙ ap Some (zero-add x)
+
+-- the part of a map at a place
 pub part_map_at : {A : Type 0} (f : A → Part) (xs : List A) (k : ℕ) (x : A) → slice_get xs k ≡ Some x
     → part_at (map f xs) k ≡ f x
-part_map_at f [] k x h = cc
-part_map_at f (y ∷ xs) zero x h = let same : y ≡ x = cc in ap f same
-part_map_at f (y ∷ xs) (suc k) x h = part_map_at f xs k x h
+part_map_at f xs k x h = rw (slice_get-map, h)
 
-renamed_below : (xs : List ℕ) (refs : List (Option ℕ))
-    → AllByRecursion (λ x. IfSome x (λ y. y < length xs)) (map (option_and_then (place_in xs)) refs)
-renamed_below xs [] = tt
-renamed_below xs (None ∷ refs) = (tt, renamed_below xs refs)
-renamed_below xs (Some x ∷ refs) = (go (place_in xs x) refl, renamed_below xs refs)
+place_below : (xs : List ℕ) (r : Option ℕ) → IfSome (option_and_then (place_in xs) r) (λ y. y < length xs)
+place_below xs None = tt
+place_below xs (Some x) = go (place_in xs x) refl
   where
     go : (r : Option ℕ) → place_in xs x ≡ r → IfSome r (λ y. y < length xs)
     go None e = tt
     go (Some k) e = slice_get_within xs k x (get_place xs x k e)
+
+placed_below : (xs : List ℕ) (refs : List (Option ℕ))
+    → All (λ r. IfSome r (λ y. y < length xs)) (map (option_and_then (place_in xs)) refs)
+placed_below xs refs =
+    All-map (λ r. IfSome r (λ y. y < length xs)) _ refs (λ k d l. place_below xs (get_or refs k d))
+
+place_range : (n : ℕ) (f : ℕ → Part) (xs : List ℕ) → AllByRecursion (λ x. x < n) xs → (x y : ℕ)
+    → IsAmong (places xs) x y → (x < n) × (y < length (map f xs))
+place_range n f xs below x y p =
+    let at = places_among xs x y p in
+    (all_has (λ x. x < n) xs below x (has_at xs y x at), rw length-map (slice_get_within xs y x at))
+
+pair_range : (n m : ℕ) (xs ys : List ℕ) → AllByRecursion (λ x. x < n) xs → AllByRecursion (λ y. y < m) ys → (x y : ℕ)
+    → IsAmong (zip xs ys) x y → (x < n) × (y < m)
+pair_range n m xs ys below above x y p =
+    let at = at_among xs ys x y p in
+    (all_has (λ x. x < n) xs below x (has_at xs at.0 x at.1), all_has (λ y. y < m) ys above y (has_at ys at.0 y at.2))
 
 module _ (nodes records : List ℕ) where
   part_paired : (p : Part) → IsPartMet nodes records p
@@ -69,70 +85,42 @@ module _ (nodes records : List ℕ) where
       → AllByRecursion (IsPartMet nodes records) s.held
       → IsPartsPairing (IsAmong (places nodes)) (IsAmong (places records)) fixed s (parts_by nodes records s)
   by_paired fixed s h closed =
-      let f : ℕ → Part = λ x. renamed_part nodes records (part_at s.nodes x) in
-      let g : ℕ → Part = λ y. renamed_part nodes records (part_at s.records y) in
-      let P : ℕ → ℕ → Type 0 = IsAmong (places nodes) in
-      let R : ℕ → ℕ → Type 0 = IsAmong (places records) in
       record {
         nodes_one_to_one = places_one nodes h.nodes_distinct;
         records_one_to_one = places_one records h.records_distinct;
-        fixed_paired = λ x l.
-            let same : 0 + x ≡ x = zero-add x in
-            among_places nodes x x
-            (get_extends h.fixed_first x x (number_at 0 fixed x l ∙ ap Some same));
-        nodes_in_range = λ x y p.
-            let at = places_among nodes x y p in (
-              all_has (λ x. x < length s.nodes) nodes h.nodes_below x (has_at nodes y x at),
-              subst (λ n. y < n) (sym (length-map nodes f)) (slice_get_within nodes y x at),
-            );
-        records_in_range = λ x y p.
-            let at = places_among records x y p in (
-              all_has (λ x. x < length s.records) records h.records_below x (has_at records y x at),
-              subst (λ n. y < n) (sym (length-map records g)) (slice_get_within records y x at),
-            );
+        fixed_paired = λ x l. among_places nodes x x (get_extends h.fixed_first x x (own_number x l));
+        nodes_in_range = place_range (length s.nodes) _ nodes h.nodes_below;
+        records_in_range = place_range (length s.records) _ records h.records_below;
         nodes_paired = λ x y p.
             let at = places_among nodes x y p in
-            subst (λ b. ArePartsPaired P R (part_at s.nodes x) b) (sym (part_map_at f nodes y x at))
-            (part_paired (part_at s.nodes x) (h.nodes_closed x (has_at nodes y x at)));
+            rw (part_map_at _ nodes y x at) (part_paired _ (h.nodes_closed x (has_at nodes y x at)));
         records_paired = λ x y p.
             let at = places_among records x y p in
-            subst (λ b. ArePartsPaired P R (part_at s.records x) b) (sym (part_map_at g records y x at))
-            (part_paired (part_at s.records x) (h.records_closed x (has_at records y x at)));
+            rw (part_map_at _ records y x at) (part_paired _ (h.records_closed x (has_at records y x at)));
         held_paired = held_paired s.held closed;
       }
 
   -- what is renamed is in range
-  module _ (n r : ℕ) (e : n ≡ length nodes) (f : r ≡ length records) where
-    part_below : (p : Part) → IsPartBelow n r (renamed_part nodes records p)
-    part_below p = record {
-      nodes =
-          All-from_recursion _ _
-          (subst (λ k. AllByRecursion (λ x. IfSome x (λ y. y < k)) (map (option_and_then (place_in nodes)) p.nodes))
-          (sym e) (renamed_below nodes p.nodes));
-      records =
-          All-from_recursion _ _
-          (subst
-          (λ k. AllByRecursion (λ x. IfSome x (λ y. y < k)) (map (option_and_then (place_in records)) p.records))
-          (sym f) (renamed_below records p.records));
-    }
+  part_below : (p : Part) → IsPartBelow (length nodes) (length records) (renamed_part nodes records p)
+  part_below p = record {
+    nodes = placed_below nodes p.nodes;
+    records = placed_below records p.records;
+  }
 
-    parts_below : {A : Type 0} (g : A → Part) (xs : List A)
-        → All (IsPartBelow n r) (map (λ x. renamed_part nodes records (g x)) xs)
-    parts_below {A} g xs = All-from_recursion _ _ (go xs)
-      where
-        go : (xs : List A) → AllByRecursion (IsPartBelow n r) (map (λ x. renamed_part nodes records (g x)) xs)
-        go [] = tt
-        go (x ∷ xs) = (part_below (g x), go xs)
+  parts_below : {A : Type 0} {n r : ℕ} → n ≡ length nodes → r ≡ length records → (g : A → Part) (xs : List A)
+      → All (IsPartBelow n r) (map (λ x. renamed_part nodes records (g x)) xs)
+  parts_below {n = n} {r = r} e f g xs =
+      All-map (IsPartBelow n r) _ xs (λ k d l. rw (e, f) (part_below (g (get_or xs k d))))
 
   pub by_in_range : (fixed : ℕ) (s : Parts) → fixed ≤ length nodes → ArePartsInRange fixed (parts_by nodes records s)
   by_in_range fixed s l =
       let n = length-map nodes (λ x. renamed_part nodes records (part_at s.nodes x)) in
       let r = length-map records (λ y. renamed_part nodes records (part_at s.records y)) in
       record {
-        fixed_in_range = subst (λ k. fixed ≤ k) (sym n) l;
-        nodes = parts_below _ _ n r (part_at s.nodes) nodes;
-        records = parts_below _ _ n r (part_at s.records) records;
-        held = parts_below _ _ n r (λ p. p) s.held;
+        fixed_in_range = rw n l;
+        nodes = parts_below n r (part_at s.nodes) nodes;
+        records = parts_below n r (part_at s.records) records;
+        held = parts_below n r (λ p. p) s.held;
       }
 
 -- nodes and records that are paired place by place leave the same
@@ -146,31 +134,22 @@ by_same P R fixed s t nodes records others targets h z w =
     let first = refs_renamed P h.nodes_one_to_one nodes others z a.nodes b.nodes p.nodes in
     let then = refs_renamed R h.records_one_to_one records targets w a.records b.records p.records in
     λ i. record { facts = facts i; nodes = first i; records = then i } in
-    let first =
-    map_paired P (λ x. renamed_part nodes records (part_at s.nodes x))
-    (λ y. renamed_part others targets (part_at t.nodes y))
-    (λ x y p. same _ _ (h.nodes_paired x y p)) nodes others z in
-    let then =
-    map_paired R (λ x. renamed_part nodes records (part_at s.records x))
-    (λ y. renamed_part others targets (part_at t.records y))
-    (λ x y p. same _ _ (h.records_paired x y p)) records targets w in
-    let last =
-    map_paired (ArePartsPaired P R) (renamed_part nodes records) (renamed_part others targets) same s.held t.held
-    h.held_paired in
+    let first = map_paired P _ _ (λ x y p. same _ _ (h.nodes_paired x y p)) nodes others z in
+    let then = map_paired R _ _ (λ x y p. same _ _ (h.records_paired x y p)) records targets w in
+    let last = map_paired (ArePartsPaired P R) _ _ same s.held t.held h.held_paired in
     λ i. record { nodes = first i; records = then i; held = last i }
 
 -- and the same is left of nodes and records that are paired place by place
 module _ (fixed : ℕ) (s t : Parts) (nodes records others targets : List ℕ) (here : AreMet fixed s nodes records)
     (there : AreMet fixed t others targets) where
-  P : ℕ → ℕ → Type 0
+  abbrev P : ℕ → ℕ → Type 0
   P = IsAmong (zip nodes others)
 
-  R : ℕ → ℕ → Type 0
+  abbrev R : ℕ → ℕ → Type 0
   R = IsAmong (zip records targets)
 
   part_from_same : (a b : Part) → IsPartMet nodes records a → IsPartMet others targets b
       → renamed_part nodes records a ≡ renamed_part others targets b → ArePartsPaired P R a b
-  unfolding P R
   part_from_same a b h g e = record {
     facts = ap (λ p. p.facts) e;
     nodes = refs_from_renamed nodes others a.nodes b.nodes h.0 g.0 (ap (λ p. p.nodes) e);
@@ -184,56 +163,34 @@ module _ (fixed : ℕ) (s t : Parts) (nodes records others targets : List ℕ) (
   held_from_same [] (q ∷ qs) h g e = cc
   held_from_same (p ∷ ps) [] h g e = cc
   held_from_same (p ∷ ps) (q ∷ qs) h g e = (
-    part_from_same p q h.0 g.0
-        (let first : renamed_part nodes records p ≡ renamed_part others targets q = cc in first),
-    held_from_same ps qs h.1 g.1
-        (let rest : map (renamed_part nodes records) ps ≡ map (renamed_part others targets) qs = cc in rest),
+    part_from_same p q h.0 g.0 (cc),
+    held_from_same ps qs h.1 g.1 (cc),
   )
-
-  fixed_among : (x : ℕ) → x < fixed → P x x
-  unfolding P
-  fixed_among x l =
-      let same : 0 + x ≡ x = zero-add x in
-      let at = number_at 0 fixed x l ∙ ap Some same in
-      among_at nodes others x x x (get_extends here.fixed_first x x at) (get_extends there.fixed_first x x at)
 
   pub paired_from_same : AllByRecursion (IsPartMet nodes records) s.held
       → AllByRecursion (IsPartMet others targets) t.held
       → parts_by nodes records s ≡ parts_by others targets t
       → IsPartsPairing (IsAmong (zip nodes others)) (IsAmong (zip records targets)) fixed s t
-  unfolding P R
   paired_from_same h g e =
-      let f : ℕ → Part = λ x. renamed_part nodes records (part_at s.nodes x) in
-      let v : ℕ → Part = λ x. renamed_part others targets (part_at t.nodes x) in
-      let same_nodes : AllZip (λ x y. f x ≡ v y) nodes others = unmap f v nodes others (ap (λ p. p.nodes) e) in
-      let k : ℕ → Part = λ y. renamed_part nodes records (part_at s.records y) in
-      let w : ℕ → Part = λ y. renamed_part others targets (part_at t.records y) in
-      let same_records : AllZip (λ x y. k x ≡ w y) records targets =
-      unmap k w records targets (ap (λ p. p.records) e) in
+      let same_nodes = unmap _ _ nodes others (ap (λ p. p.nodes) e) in
+      let same_records = unmap _ _ records targets (ap (λ p. p.records) e) in
       record {
         nodes_one_to_one = zip_one nodes others here.nodes_distinct there.nodes_distinct;
         records_one_to_one = zip_one records targets here.records_distinct there.records_distinct;
-        fixed_paired = fixed_among;
-        nodes_in_range = λ x y p.
-            let at = at_among nodes others x y p in (
-              all_has (λ x. x < length s.nodes) nodes here.nodes_below x (has_at nodes at.0 x at.1),
-              all_has (λ x. x < length t.nodes) others there.nodes_below y (has_at others at.0 y at.2),
-            );
-        records_in_range = λ x y p.
-            let at = at_among records targets x y p in (
-              all_has (λ x. x < length s.records) records here.records_below x (has_at records at.0 x at.1),
-              all_has (λ x. x < length t.records) targets there.records_below y (has_at targets at.0 y at.2),
-            );
+        fixed_paired = λ x l.
+            among_at nodes others x x x (get_extends here.fixed_first x x (own_number x l))
+            (get_extends there.fixed_first x x (own_number x l));
+        nodes_in_range = pair_range _ _ nodes others here.nodes_below there.nodes_below;
+        records_in_range = pair_range _ _ records targets here.records_below there.records_below;
         nodes_paired = λ x y p.
             let at = at_among nodes others x y p in
-            part_from_same (part_at s.nodes x) (part_at t.nodes y) (here.nodes_closed x (has_at nodes at.0 x at.1))
+            part_from_same _ _ (here.nodes_closed x (has_at nodes at.0 x at.1))
             (there.nodes_closed y (has_at others at.0 y at.2))
-            (rel_among (λ x y. f x ≡ v y) nodes others same_nodes x y p);
+            (rel_among _ nodes others same_nodes x y p);
         records_paired = λ x y p.
             let at = at_among records targets x y p in
-            part_from_same (part_at s.records x) (part_at t.records y)
-            (here.records_closed x (has_at records at.0 x at.1))
+            part_from_same _ _ (here.records_closed x (has_at records at.0 x at.1))
             (there.records_closed y (has_at targets at.0 y at.2))
-            (rel_among (λ x y. k x ≡ w y) records targets same_records x y p);
+            (rel_among _ records targets same_records x y p);
         held_paired = held_from_same s.held t.held h g (ap (λ p. p.held) e);
       }

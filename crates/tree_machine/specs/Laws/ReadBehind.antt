@@ -1,22 +1,26 @@
 -- Nodes, records and what the threads hold, read behind a front that stays.
-use Rattle.std.proofs.Common.{◌≡◌, ℕ, ◌≤◌, List, ◌++◌, length, map, take, drop, sym, ◌∙◌, ap}
+use Rattle.std.proofs.Common.{◌≡◌, ℕ, ◌≤◌, List, ◌++◌, length, map, take, drop, sym, ◌∙◌}
 use Rattle.std.specs.Prelude.{Option}
 use Rattle.std.specs.List.{flat_map}
+use Rattle.std.proofs.lemmas.List.{drop_at, length-map, length-take-le, map-append, take_at, take-map}
 use Rattle.tree_machine.specs.Alike.{places_of}
-use Rattle.tree_machine.specs.Flat.{behind_code, cell_code, front_code, graph_code, left_code, part_codes, part_content}
+use Rattle.tree_machine.specs.Flat.{behind_code, cell_code, front_code, graph_code, left_code, part_content}
 use Rattle.tree_machine.specs.Parts.{Part}
-use Rattle.tree_machine.specs.Laws.ReadParts.{drop_front, places_coded, take_front}
+use Rattle.tree_machine.specs.Laws.ReadParts.{places_coded}
 use Rattle.tree_machine.specs.declared.front.Front.{Front}
 use Rattle.tree_machine.specs.declared.state.Thread.{Thread}
 
 -- values of which the first n stayed, and the others were read
 module _ {A : Type 0} (part : A → Part) (n : ℕ) (old more now : List A) (bounded : n ≤ length old)
     (e : now ≡ take n old ++ more) where
+  kept_count : length (map part (take n old)) ≡ n
+  kept_count = simp length-map (length-take-le n old bounded)
+
   pub drop_read : drop n (map part now) ≡ map part more
-  drop_read = ap (λ xs. drop n (map part xs)) e ∙ drop_front part n old more bounded
+  drop_read = rw (e, map-append) (drop_at _ _ n kept_count)
 
   pub take_kept : take n (map part now) ≡ take n (map part old)
-  take_kept = ap (λ xs. take n (map part xs)) e ∙ take_front part n old more bounded
+  take_kept = rw (e, map-append) (take_at _ _ n kept_count ∙ sym (take-map part n old))
 
 -- what comes behind the front
 pub behind_read : {Place : Type 0} (part : Option Place → Part) (front : Front) (nodes records more others : List Part)
@@ -26,8 +30,7 @@ pub behind_read : {Place : Type 0} (part : Option Place → Part) (front : Front
     → rest ≡ left_code more others
     → bytes ≡ behind_code front (record { nodes = nodes; records = records; held = map part (places_of threads) })
 behind_read part front nodes records more others threads bytes rest e f b r =
-    b ∙ (λ i. places_coded part threads i ++ r i)
-    ∙ (λ i. part_codes (map part (places_of threads)) ++ left_code (sym e i) (sym f i))
+    rw (b, r, places_coded part threads, e, f)
 
 pub front_kept : (front : Front) (nodes records old kept held : List Part) → take front.nodes nodes
     ≡ take front.nodes old

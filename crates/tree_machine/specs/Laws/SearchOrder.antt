@@ -28,10 +28,6 @@ module _ (shapes : ℕ → Option Shape) where
   apart zero low high x h = absurd h
   apart (suc levels) low high x h = apart_node levels (apart levels) low high (shapes x) h
 
-  pub some_level : (levels low high x : ℕ) → IsOrderedWithin shapes levels low high x → 1 ≤ levels
-  some_level zero low high x h = absurd h
-  some_level (suc levels) low high x h = omega arith
-
   more_node : (A B : ℕ → ℕ → ℕ → Type 0) → ((low high x : ℕ) → A low high x → B low high x)
       → (low high : ℕ) (shape : Option Shape) → IsNodeOrdered A low high shape → IsNodeOrdered B low high shape
   more_node A B f low high None o = o
@@ -80,25 +76,15 @@ module _ (shapes : ℕ → Option Shape) where
         let over : low < m = omega arith in (
           over,
           under,
-          record {
-            levels = t.0;
-            within = subst (λ n. IsOrderedWithin shapes t.0 low n l) (min_below m high under)
-                t.1.0;
-          },
-          record {
-            levels = t.0;
-            within = subst (λ n. IsOrderedWithin shapes t.0 n high r) (max_above m low over)
-                t.1.1;
-          },
+          record { levels = t.0; within = rw (min_below m high under) at t.1.0 },
+          record { levels = t.0; within = rw (max_above m low over) at t.1.1 },
         )),
     (λ o. let n = o.2.levels in let p = o.3.levels in
-        let left =
-        subst (λ z. IsOrderedWithin shapes (n + p) low z l) (sym (min_below m high o.1))
-        (more_levels n (n + p) low m l (omega arith) o.2.within) in
-        let right =
-        subst (λ z. IsOrderedWithin shapes (n + p) z high r) (sym (max_above m low o.0))
-        (more_levels p (n + p) m high r (omega arith) o.3.within) in
-        record { levels = suc (n + p); within = of_node (n + p) low high x (Some (Internal m l r)) e (left, right) }),
+        let left = more_levels n (n + p) low m l (omega arith) o.2.within in
+        let right = more_levels p (n + p) m high r (omega arith) o.3.within in
+        let both : IsNodeOrdered (IsOrderedWithin shapes (n + p)) low high (Some (Internal m l r)) =
+        rw (min_below m high o.1, max_above m low o.0) (left, right) in
+        record { levels = suc (n + p); within = of_node (n + p) low high x (Some (Internal m l r)) e both }),
   )
 
   -- a search ends at a leaf, and where there is no node

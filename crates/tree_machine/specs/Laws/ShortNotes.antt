@@ -1,16 +1,14 @@
 -- Notes are read back from their numbers.
-use Rattle.std.proofs.Common.{◌≡◌, ℕ, zero, suc, ◌+◌, ◌*◌, ◌/◌, ◌%◌, ◌^◌, ◌<◌, ◌≤◌, Bool, true, ◌&&◌, List, [], ◌∷◌}
+use Rattle.std.proofs.Common.{◌≡◌, ℕ, zero, suc, ◌+◌, ◌*◌, ◌/◌, ◌%◌, ◌^◌, ◌<◌, ◌≤◌, true, ◌&&◌, List, [], ◌∷◌}
 use Rattle.std.proofs.Common.{◌++◌, length, take, refl, ap, ap₂, arith, get_or}
 use Rattle.std.specs.Prelude.{nat_le, nat_lt}
+use Rattle.std.specs.List.{AllByRecursion}
 use Rattle.std.proofs.lemmas.List.{length-take}
 use Rattle.std.proofs.lemmas.Bool.{leb-true, le-leb, ltb-true, lt-ltb}
 use Rattle.sched_program.specs.Laws.Exact.{both}
 use Rattle.tree_machine.specs.Packed.{note_number, counts_in, are_digits, is_short}
 
 -- ---- what a short note is
-
-digit_of : (c : ℕ) (rest : Bool) → (nat_lt c 8 && rest) ≡ true → (c < 8) × (rest ≡ true)
-digit_of c rest h = let parts = both (nat_lt c 8) rest h in (ltb-true c 8 parts.0, parts.1)
 
 pub short_parts : (counts : List ℕ) → is_short counts ≡ true → (length counts ≤ 4) × (are_digits counts ≡ true)
 short_parts counts h =
@@ -33,61 +31,57 @@ digits_fewer (suc k) (count ∷ counts) digits =
     let parts = both (nat_lt count 8) (are_digits counts) digits in
     ap₂ ◌&&◌ parts.0 (digits_fewer k counts parts.1)
 
-four_at_most : (k a b c d : ℕ) → length (take k (a ∷ b ∷ c ∷ d ∷ [])) ≤ 4
-four_at_most k a b c d = omega (arith, length-take k (a ∷ b ∷ c ∷ d ∷ []))
-
 -- the counts of any number are a short note
 pub counts_short : (n : ℕ) → is_short (counts_in n) ≡ true
 unfolding counts_in
 counts_short n =
     let digit = λ (x : ℕ). lt-ltb (x % 8) 8 (omega arith) in
-    let all : are_digits (n % 8 ∷ n / 8 % 8 ∷ n / 64 % 8 ∷ n / 512 % 8 ∷ []) ≡ true =
-    ap₂ ◌&&◌ (digit n) (ap₂ ◌&&◌ (digit (n / 8)) (ap₂ ◌&&◌ (digit (n / 64)) (ap₂ ◌&&◌ (digit (n / 512)) refl))) in
-    short_of _ (four_at_most (n / 4096) (n % 8) (n / 8 % 8) (n / 64 % 8) (n / 512 % 8)) (digits_fewer (n / 4096) _ all)
+    let digits = n % 8 ∷ n / 8 % 8 ∷ n / 64 % 8 ∷ n / 512 % 8 ∷ [] in
+    let all : are_digits digits ≡ true = rw (digit n, digit (n / 8), digit (n / 64), digit (n / 512)) refl in
+    short_of (take (n / 4096) digits) (omega (arith, length-take {A = ℕ})) (digits_fewer (n / 4096) digits all)
 
 -- ---- from a note to its number and back
 
+digits_small : (counts : List ℕ) → are_digits counts ≡ true → AllByRecursion (λ count. count < 8) counts
+digits_small [] digits = tt
+digits_small (count ∷ counts) digits =
+    let parts = both (nat_lt count 8) (are_digits counts) digits in
+    (ltb-true count 8 parts.0, digits_small counts parts.1)
+
+-- what the number of a note tells: it is below 20480, how many counts there are, and each of them as a digit
+abbrev Tells : List ℕ → ℕ → Type 0
+Tells counts n = (n < 20480) × (n / 4096 ≡ length counts) × (n % 8 ≡ get_or counts 0 0)
+    × (n / 8 % 8 ≡ get_or counts 1 0) × (n / 64 % 8 ≡ get_or counts 2 0) × (n / 512 % 8 ≡ get_or counts 3 0)
+
+number_tells : (counts : List ℕ) → is_short counts ≡ true → Tells counts (note_number counts)
+number_tells counts h = go counts (short_parts counts h).0 (digits_small counts (short_parts counts h).1)
+  where
+    go : (counts : List ℕ) → length counts ≤ 4 → AllByRecursion (λ count. count < 8) counts
+        → Tells counts (note_number counts)
+    go [] bounded small = (omega arith, omega arith, omega arith, omega arith, omega arith, omega arith)
+    go (a ∷ []) bounded small = (omega arith, omega arith, omega arith, omega arith, omega arith, omega arith)
+    go (a ∷ b ∷ []) bounded small = (omega arith, omega arith, omega arith, omega arith, omega arith, omega arith)
+    go (a ∷ b ∷ c ∷ []) bounded small =
+        (omega arith, omega arith, omega arith, omega arith, omega arith, omega arith)
+    go (a ∷ b ∷ c ∷ d ∷ []) bounded small =
+        (omega arith, omega arith, omega arith, omega arith, omega arith, omega arith)
+    go (a ∷ b ∷ c ∷ d ∷ e ∷ counts) bounded small = absurd (omega arith)
+
 pub counts_of_number : (counts : List ℕ) → is_short counts ≡ true → counts_in (note_number counts) ≡ counts
 unfolding counts_in
-counts_of_number [] h = refl
-counts_of_number (a ∷ []) h =
-    let first = digit_of a true (short_parts (a ∷ []) h).1 in
-    let n = note_number (a ∷ []) in
-    let count : n / 4096 ≡ 1 = omega (arith, first.0) in
-    let one : n % 8 ≡ a = omega (arith, first.0) in
-    rw (count, one) refl
-counts_of_number (a ∷ b ∷ []) h =
-    let first = digit_of a _ (short_parts (a ∷ b ∷ []) h).1 in
-    let second = digit_of b _ first.1 in
-    let n = note_number (a ∷ b ∷ []) in
-    let count : n / 4096 ≡ 2 = omega (arith, first.0, second.0) in
-    let one : n % 8 ≡ a = omega (arith, first.0, second.0) in
-    let two : n / 8 % 8 ≡ b = omega (arith, first.0, second.0) in
-    rw (count, one, two) refl
-counts_of_number (a ∷ b ∷ c ∷ []) h =
-    let first = digit_of a _ (short_parts (a ∷ b ∷ c ∷ []) h).1 in
-    let second = digit_of b _ first.1 in
-    let third = digit_of c _ second.1 in
-    let n = note_number (a ∷ b ∷ c ∷ []) in
-    let count : n / 4096 ≡ 3 = omega (arith, first.0, second.0, third.0) in
-    let one : n % 8 ≡ a = omega (arith, first.0, second.0, third.0) in
-    let two : n / 8 % 8 ≡ b = omega (arith, first.0, second.0, third.0) in
-    let three : n / 64 % 8 ≡ c = omega (arith, first.0, second.0, third.0) in
-    rw (count, one, two, three) refl
-counts_of_number (a ∷ b ∷ c ∷ d ∷ []) h =
-    let first = digit_of a _ (short_parts (a ∷ b ∷ c ∷ d ∷ []) h).1 in
-    let second = digit_of b _ first.1 in
-    let third = digit_of c _ second.1 in
-    let fourth = digit_of d _ third.1 in
-    let n = note_number (a ∷ b ∷ c ∷ d ∷ []) in
-    let count : n / 4096 ≡ 4 = omega (arith, first.0, second.0, third.0, fourth.0) in
-    let one : n % 8 ≡ a = omega (arith, first.0, second.0, third.0, fourth.0) in
-    let two : n / 8 % 8 ≡ b = omega (arith, first.0, second.0, third.0, fourth.0) in
-    let three : n / 64 % 8 ≡ c = omega (arith, first.0, second.0, third.0, fourth.0) in
-    let four : n / 512 % 8 ≡ d = omega (arith, first.0, second.0, third.0, fourth.0) in
-    rw (count, one, two, three, four) refl
-counts_of_number (a ∷ b ∷ c ∷ d ∷ e ∷ counts) h =
-    let bounded = (short_parts (a ∷ b ∷ c ∷ d ∷ e ∷ counts) h).0 in absurd (omega (arith, bounded))
+counts_of_number counts h =
+    let t = number_tells counts h in
+    rw (t.1, t.2, t.3, t.4, t.5) (go counts (short_parts counts h).0)
+  where
+    go : (counts : List ℕ) → length counts ≤ 4
+        → take (length counts) (get_or counts 0 0 ∷ get_or counts 1 0 ∷ get_or counts 2 0 ∷ get_or counts 3 0 ∷ [])
+        ≡ counts
+    go [] bounded = refl
+    go (a ∷ []) bounded = refl
+    go (a ∷ b ∷ []) bounded = refl
+    go (a ∷ b ∷ c ∷ []) bounded = refl
+    go (a ∷ b ∷ c ∷ d ∷ []) bounded = refl
+    go (a ∷ b ∷ c ∷ d ∷ e ∷ counts) bounded = absurd (omega arith)
 
 -- a number with no digit behind its k counts is that of its counts
 pub number_of_counts : (n k : ℕ) → n / 4096 ≡ k → n < 20480 → n % 4096 / 2 ^ (3 * k) ≡ 0
@@ -112,81 +106,13 @@ one_count_more (a ∷ b ∷ c ∷ d ∷ counts) count room = absurd (omega arith
 -- ---- the digits of a number are its counts
 
 pub number_below : (counts : List ℕ) → is_short counts ≡ true → note_number counts < 20480
-number_below [] h = omega arith
-number_below (a ∷ []) h = let first = digit_of a _ (short_parts (a ∷ []) h).1 in omega (arith, first.0)
-number_below (a ∷ b ∷ []) h =
-    let first = digit_of a _ (short_parts (a ∷ b ∷ []) h).1 in
-    let second = digit_of b _ first.1 in
-    omega (arith, first.0, second.0)
-number_below (a ∷ b ∷ c ∷ []) h =
-    let first = digit_of a _ (short_parts (a ∷ b ∷ c ∷ []) h).1 in
-    let second = digit_of b _ first.1 in
-    let third = digit_of c _ second.1 in
-    omega (arith, first.0, second.0, third.0)
-number_below (a ∷ b ∷ c ∷ d ∷ []) h =
-    let first = digit_of a _ (short_parts (a ∷ b ∷ c ∷ d ∷ []) h).1 in
-    let second = digit_of b _ first.1 in
-    let third = digit_of c _ second.1 in
-    let fourth = digit_of d _ third.1 in
-    omega (arith, first.0, second.0, third.0, fourth.0)
-number_below (a ∷ b ∷ c ∷ d ∷ e ∷ counts) h =
-    let bounded = (short_parts (a ∷ b ∷ c ∷ d ∷ e ∷ counts) h).0 in absurd (omega (arith, bounded))
+number_below counts h = (number_tells counts h).0
 
 -- each digit of the number of a note is its count, and none where it has none
 pub counts_at : (counts : List ℕ) → is_short counts ≡ true
     → let n = note_number counts in (n % 8 ≡ get_or counts 0 0) × (n / 8 % 8 ≡ get_or counts 1 0)
     × (n / 64 % 8 ≡ get_or counts 2 0) × (n / 512 % 8 ≡ get_or counts 3 0)
-counts_at [] h = (omega arith, omega arith, omega arith, omega arith)
-counts_at (a ∷ []) h =
-    let first = (digit_of a _ (short_parts (a ∷ []) h).1).0 in (omega arith, omega arith, omega arith, omega arith)
-counts_at (a ∷ b ∷ []) h =
-    let rest = digit_of a _ (short_parts (a ∷ b ∷ []) h).1 in
-    let first = rest.0 in
-    let second = (digit_of b _ rest.1).0 in
-    (omega arith, omega arith, omega arith, omega arith)
-counts_at (a ∷ b ∷ c ∷ []) h =
-    let rest = digit_of a _ (short_parts (a ∷ b ∷ c ∷ []) h).1 in
-    let more = digit_of b _ rest.1 in
-    let first = rest.0 in
-    let second = more.0 in
-    let third = (digit_of c _ more.1).0 in
-    (omega arith, omega arith, omega arith, omega arith)
-counts_at (a ∷ b ∷ c ∷ d ∷ []) h =
-    let rest = digit_of a _ (short_parts (a ∷ b ∷ c ∷ d ∷ []) h).1 in
-    let more = digit_of b _ rest.1 in
-    let most = digit_of c _ more.1 in
-    let first = rest.0 in
-    let second = more.0 in
-    let third = most.0 in
-    let fourth = (digit_of d _ most.1).0 in
-    (omega arith, omega arith, omega arith, omega arith)
-counts_at (a ∷ b ∷ c ∷ d ∷ e ∷ counts) h =
-    let bounded = (short_parts (a ∷ b ∷ c ∷ d ∷ e ∷ counts) h).0 in absurd (omega (arith, bounded))
+counts_at counts h = let t = number_tells counts h in (t.2, t.3, t.4, t.5)
 
 pub length_of_number : (counts : List ℕ) → is_short counts ≡ true → note_number counts / 4096 ≡ length counts
-length_of_number [] h = omega arith
-length_of_number (a ∷ []) h =
-    let first = (digit_of a _ (short_parts (a ∷ []) h).1).0 in omega arith
-length_of_number (a ∷ b ∷ []) h =
-    let rest = digit_of a _ (short_parts (a ∷ b ∷ []) h).1 in
-    let first = rest.0 in
-    let second = (digit_of b _ rest.1).0 in
-    omega arith
-length_of_number (a ∷ b ∷ c ∷ []) h =
-    let rest = digit_of a _ (short_parts (a ∷ b ∷ c ∷ []) h).1 in
-    let more = digit_of b _ rest.1 in
-    let first = rest.0 in
-    let second = more.0 in
-    let third = (digit_of c _ more.1).0 in
-    omega arith
-length_of_number (a ∷ b ∷ c ∷ d ∷ []) h =
-    let rest = digit_of a _ (short_parts (a ∷ b ∷ c ∷ d ∷ []) h).1 in
-    let more = digit_of b _ rest.1 in
-    let most = digit_of c _ more.1 in
-    let first = rest.0 in
-    let second = more.0 in
-    let third = most.0 in
-    let fourth = (digit_of d _ most.1).0 in
-    omega arith
-length_of_number (a ∷ b ∷ c ∷ d ∷ e ∷ counts) h =
-    let bounded = (short_parts (a ∷ b ∷ c ∷ d ∷ e ∷ counts) h).0 in absurd (omega (arith, bounded))
+length_of_number counts h = (number_tells counts h).1

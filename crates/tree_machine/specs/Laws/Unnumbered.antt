@@ -31,10 +31,7 @@ module _ {Place : Type 0} where
   held_same (None ∷ held) (None ∷ twins) h = ap (λ rest. None ∷ rest) (held_same held twins h.1)
   held_same (None ∷ held) (Some twin ∷ twins) h = absurd h.0
   held_same (Some place ∷ held) (None ∷ twins) h = absurd h.0
-  held_same (Some place ∷ held) (Some twin ∷ twins) h =
-      let first : place ≡ twin = h.0 in
-      let rest = held_same held twins h.1 in
-      λ i. Some (first i) ∷ rest i
+  held_same (Some place ∷ held) (Some twin ∷ twins) h = cc (h.0, held_same held twins h.1)
 
 module _ {Memory Place : Type 0} where
   pub equal_pairs_lawful : {Operation : Type 0} (first : Operation → Place)

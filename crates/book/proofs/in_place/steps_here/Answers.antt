@@ -1,21 +1,13 @@
 -- The steps are appended thread by thread, and after each the state is what it was.
-use Rattle.std.proofs.Common.{◌≡◌, ◌≤◌, length, ap, refl, subst, arith, ◌∙◌}
-use Rattle.replay.specs.Findings.{machine_of, IsFindingOf}
-use Rattle.book.specs.ByLabel.{label_in}
-use Rattle.book.proofs.ThreadSteps.{IsFrontBy, front_by_none, front_by_put, steps_from_front}
+use Rattle.std.proofs.Common.{◌≡◌, ◌≤◌, length, ap, refl, arith, ◌∙◌}
+use Rattle.book.proofs.ThreadSteps.{front_by_none, front_by_put, steps_from_front}
 use Rattle.book.proofs.in_place.steps_here.Goals as goal
 
 pub loop-thread-init : goal.loop-thread-init
 loop-thread-init g c =
-    let from = c.args.from.now.key in
-    let rules = g.M.Machine.rules from.machine in
-    let m = machine_of {Machine = g.row.M.Denot} {Form = g.row.M-Form.Denot} rules from.program in
-    let right = IsFindingOf {Machine = g.row.M.Denot} {Form = g.row.M-Form.Denot} rules from.program in
-    let label_of =
-    label_in g.M.Machine.rules g.M.Encode.own_code g.M.Encode.form_code g.M.Machine.form_of from in
     record {
       state = refl;
-      front = (λ of fits is. rw c.in_ok-steps.ensures.list (front_by_none m right of label_of));
+      front = (λ of fits is. rw c.in_ok-steps.ensures.list (front_by_none _ _ of _));
       len = (let none = ap length c.in_ok-steps.ensures.list in
           let all = c.in_ok-steps.steps.ok.0 in omega (arith, none, all));
       room = c.in_ok-steps.ensures.room;
@@ -27,15 +19,9 @@ put_step_here-requires-clause-source g c κs within = rw c.loop-thread.invariant
 -- a thread that is enabled adds its step, and another adds none
 pub loop-thread-preserved : goal.loop-thread-preserved
 loop-thread-preserved g c =
-    let from = c.args.from.now.key in
-    let rules = g.M.Machine.rules from.machine in
-    let m = machine_of {Machine = g.row.M.Denot} {Form = g.row.M-Form.Denot} rules from.program in
-    let right = IsFindingOf {Machine = g.row.M.Denot} {Form = g.row.M-Form.Denot} rules from.program in
-    let label_of =
-    label_in g.M.Machine.rules g.M.Encode.own_code g.M.Encode.form_code g.M.Machine.form_of from in
     record {
       state = c.in_ok-put_step_here.ensures.state ∙ c.loop-thread.invariant.state;
-      front = (λ of fits is. front_by_put m right of label_of c.loop-thread.thread c.loop-thread.steps.items
+      front = (λ of fits is. front_by_put _ _ of _ c.loop-thread.thread c.loop-thread.steps.items
           c.put_step_here.new.steps.items (c.loop-thread.invariant.front of fits is)
           (c.in_ok-put_step_here.ensures.put of fits is));
       len = (let one = c.in_ok-put_step_here.ensures.len in
@@ -47,20 +33,13 @@ loop-thread-preserved g c =
 pub returns-clause-steps : goal.returns-clause-steps
 returns-clause-steps g c =
     let from = c.args.from.now.key in
-    let rules = g.M.Machine.rules from.machine in
     let program = from.program in
-    let m = machine_of {Machine = g.row.M.Denot} {Form = g.row.M-Form.Denot} rules program in
-    let right = IsFindingOf {Machine = g.row.M.Denot} {Form = g.row.M-Form.Denot} rules program in
-    let label_of =
-    label_in g.M.Machine.rules g.M.Encode.own_code g.M.Encode.form_code g.M.Machine.form_of from in
-    let steps = c.loop-thread.steps.items in
     let most : c.loop-thread.thread ≤ length c.threads-threads.result.now = c.loop-thread.auto.thread-end in
     let least : length c.threads-threads.result.now ≤ c.loop-thread.thread = c.loop-thread-test.false in
     let all : length c.threads-threads.result.now ≡ length program.threads =
     rw (← c.from.view_is) (ap length c.threads-threads.ensures.value) in
     let done : c.loop-thread.thread ≡ length program.threads = omega arith in
-    λ of fits is. steps_from_front m right of label_of steps
-    (subst (λ n. IsFrontBy m right of label_of n steps) done (c.loop-thread.invariant.front of fits is))
+    λ of fits is. steps_from_front _ _ of _ _ (rw done at (c.loop-thread.invariant.front of fits is))
 
 pub returns-clause-state : goal.returns-clause-state
 returns-clause-state g c = c.loop-thread.invariant.state

@@ -1,4 +1,4 @@
-use Rattle.std.proofs.Common.{◌≡◌, ◌<◌, ◌≤◌, length, true, not, sym, ap, ◌∙◌, arith}
+use Rattle.std.proofs.Common.{◌≡◌, ◌<◌, length, true, not, sym, ap, ◌∙◌, arith}
 use Rattle.std.proofs.lemmas.Option.{slice_get_within}
 use Rattle.book.specs.Entries.{Entry}
 use Rattle.replay.specs.Findings.{is_sound}
@@ -23,9 +23,7 @@ loop-index-preserved g c =
 pub returns : goal.returns
 returns g c =
     let es = entries_of c.args.slots.now.entries in
-    let l : length es ≡ length c.args.slots.now.entries = length-entries c.args.slots.now.entries in
-    let n : c.len-index-end.result ≡ length c.args.slots.now.entries = c.len-index-end.ensures.len in
-    let le : c.len-index-end.result ≤ c.loop-index.index = c.loop-index-test.false in
+    let l = length-entries c.args.slots.now.entries in
     sym (none_is (λ (e : Entry g.row.S.Denot). not (is_sound e.finding)) es
     (λ k y there. ap not
     (c.loop-index.invariant k y there

@@ -1,4 +1,4 @@
-use Rattle.std.proofs.Common.{◌≡◌, ◌<◌, ◌≤◌, length, sym, ◌∙◌, arith}
+use Rattle.std.proofs.Common.{◌≡◌, ◌<◌, length, sym, ◌∙◌, arith}
 use Rattle.std.proofs.lemmas.Option.{slice_get_within}
 use Rattle.book.specs.declared.entry.Mark.TheVariants.{Expanded}
 use Rattle.book.specs.Entries.{Entry}
@@ -17,10 +17,7 @@ loop-index-preserved g c =
 
 pub returns : goal.returns
 returns g c =
-    let l : length (entries_of c.args.slots.now.entries) ≡ length c.args.slots.now.entries =
-    length-entries c.args.slots.now.entries in
-    let n : c.len-index-end.result ≡ length c.args.slots.now.entries = c.len-index-end.ensures.len in
-    let le : c.len-index-end.result ≤ c.loop-index.index = c.loop-index-test.false in
+    let l = length-entries c.args.slots.now.entries in
     record {
       expanded = (λ i e at less. c.loop-index.invariant i e at (omega arith));
       stops = (λ e at. absurd

@@ -1,10 +1,9 @@
-use Rattle.std.proofs.Common.{◌+◌, ◌<◌, ◌≤◌, refl, arith}
+use Rattle.std.proofs.Common.{refl, arith}
 use Rattle.crew.proofs.Soundness.{none_unsound}
 use Rattle.crew.proofs.driving.expand_layer.Goals as goal
 
 pub layer-init : goal.layer-init
 layer-init g c =
-    let b = c.args.book.now in
     let stands = c.requires.stands in
     record {
       kept = record { machine = refl; program = refl; merge = refl; limit = refl };
@@ -13,11 +12,10 @@ layer-init g c =
         none_taken = stands.none_taken;
         through = record {
           done = stands.done;
-          sound = (λ i e at _. none_unsound b.entries c.requires.sound i e at);
+          sound = (λ i e at _. none_unsound c.args.book.now.entries c.requires.sound i e at);
         };
-        fresh = (λ i e at deep. let bounded : e.state.steps ≤ c.args.depth = stands.shallow i e at in
-            absurd (omega arith));
-        shallow = (λ i e at. let bounded : e.state.steps ≤ c.args.depth = stands.shallow i e at in omega arith);
+        fresh = (λ i e at deep. absurd (omega (arith, stands.shallow i e at)));
+        shallow = (λ i e at. omega (arith, stands.shallow i e at));
       };
     }
 
@@ -26,10 +24,8 @@ returns-clause-next g c =
     let here = c.layer.invariant.in_layer in
     record {
       none_taken = here.none_taken;
-      done = (λ i e at less. c.is_left_to.ensures.none c.layer-test.false i e at
-          (let bounded : e.state.steps < c.args.depth + 1 = less in omega arith));
+      done = (λ i e at less. c.is_left_to.ensures.none c.layer-test.false i e at (omega (arith, less)));
       fresh = here.fresh;
       shallow = here.shallow;
-      sound = (λ i e at less. here.through.sound i e at
-          (let bounded : e.state.steps < c.args.depth + 1 = less in omega arith));
+      sound = (λ i e at less. here.through.sound i e at (omega (arith, less)));
     }

@@ -25,7 +25,6 @@ next : (g : Over) (c : After-enter g)
 next g c = record {
   machine = c.law.ensures.machine;
   test = c.law.ensures.test;
-  was = c.law.ensures.law;
   law = c.law-2.ensures.law;
   same = c.in_ok-id.ensures.same;
   layer = c.requires.in_layer;
@@ -40,19 +39,16 @@ next g c = record {
 
 pub returns-in-Ok-clause-ledger : goal.returns-in-Ok-clause-ledger
 returns-in-Ok-clause-ledger g c =
-    ledger_of_entered (next g (goal.at.returns-in-Ok-clause-ledger g c).After-enter) c.enter.new.self
-    c.in-Ok.counts.entered c.in-Ok.counts.met c.in-Ok.ensures.entered c.args.share.now c.add.new.self
-    c.requires.ledger c.add.ensures
+    ledger_of_entered (next g (goal.at.returns-in-Ok-clause-ledger g c).After-enter) c.in-Ok.ensures.entered
+    c.args.share.now c.add.new.self c.requires.ledger c.add.ensures
 
 pub returns-in-Ok-clause-next : goal.returns-in-Ok-clause-next
 returns-in-Ok-clause-next g c =
-    in_layer (next g (goal.at.returns-in-Ok-clause-next g c).After-enter) c.enter.new.self
-    c.in-Ok.counts.entered c.in-Ok.counts.met c.in-Ok.ensures.entered
+    in_layer (next g (goal.at.returns-in-Ok-clause-next g c).After-enter) c.in-Ok.ensures.entered
 
 pub returns-in-Ok-clause-more : goal.returns-in-Ok-clause-more
 returns-in-Ok-clause-more g c =
-    one_more (next g (goal.at.returns-in-Ok-clause-more g c).After-enter) c.enter.new.self
-    c.in-Ok.counts.entered c.in-Ok.counts.met c.in-Ok.ensures.entered
+    one_more (next g (goal.at.returns-in-Ok-clause-more g c).After-enter) c.in-Ok.ensures.entered
 
 pub returns-in-Err-Full-clause-ledger : goal.returns-in-Err-Full-clause-ledger
 returns-in-Err-Full-clause-ledger g c =
@@ -74,9 +70,3 @@ pub unreachable-requires-in-Err-Stranger : goal.unreachable-requires-in-Err-Stra
 unreachable-requires-in-Err-Stranger g c =
     let refused = rw c.in-Err-Stranger.field-0-is at c.in-Err-Stranger.ensures.refused in
     refused.1 (its_own (next g (goal.at.unreachable-requires-in-Err-Stranger g c).After-enter))
-
-pub returns-in-Err-Full-clause-next : goal.returns-in-Err-Full-clause-next
-returns-in-Err-Full-clause-next g c = tt
-
-pub returns-in-Err-Full-clause-more : goal.returns-in-Err-Full-clause-more
-returns-in-Err-Full-clause-more g c = tt

@@ -1,9 +1,8 @@
 use Rattle.std.proofs.Common.{sym}
-use Rattle.tree_machine.specs.Step.{Fits}
 use Rattle.replay.specs.Findings.{machine_of}
 use Rattle.replay.specs.Replay.{StopsAt}
 use Rattle.replay.specs.declared.replayed.ReplayFault.TheVariants.{NotEnabled}
-use Rattle.crew.proofs.Ends.{given_own, no_stop, same_end}
+use Rattle.crew.proofs.Ends.{no_stop, same_end}
 use Rattle.crew.proofs.reading.is_full_at.Goals as goal
 
 pub returns-in-Err-NotEnabled-clause-yes : goal.returns-in-Err-NotEnabled-clause-yes
@@ -29,6 +28,4 @@ is_full_for-requires-clause-own g c κs within =
     )
 
 pub is_full_for-requires-clause-fits : goal.is_full_for-requires-clause-fits
-is_full_for-requires-clause-fits g c κs within =
-    given_own (λ y q. Fits (g.M.Machine.rules y) q c.in-Ok.end.state) c.machine.result c.args.book.now.machine
-    c.args.program.now c.args.book.now.program c.machine.ensures c.requires.program c.in-Ok.ensures.fits
+is_full_for-requires-clause-fits g c κs within = rw (c.machine.ensures, c.requires.program) at c.in-Ok.ensures.fits

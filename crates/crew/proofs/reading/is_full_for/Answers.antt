@@ -1,23 +1,19 @@
-use Rattle.std.proofs.Common.{◌≡◌, ◌<◌, ◌≤◌, ◌∙◌, ap, arith, refl, sym}
+use Rattle.std.proofs.Common.{◌∙◌, ap, arith, sym, rules}
 use Rattle.tree_machine.specs.declared.state.State.{State}
 use Rattle.book.specs.Entries.{IsOwn}
 use Rattle.crew.proofs.Expansions.{expansion_in, own_of}
-use Rattle.crew.proofs.ReadOff.{entry_steps, not_entered}
+use Rattle.crew.proofs.ReadOff.{IsKnown, entry_steps, not_entered}
 use Rattle.crew.proofs.reading.is_full_for.Given.{Over}
 use Rattle.crew.proofs.reading.is_full_for.Goals.{After-enter}
 use Rattle.crew.proofs.reading.is_full_for.Goals as goal
 
 pub of-requires-clause-steps_fit : goal.of-requires-clause-steps_fit
 of-requires-clause-steps_fit g c κs within =
-    let b = c.args.book.now in
-    let law = c.law.ensures in
+    let known : IsKnown g.M.Machine.rules c.args.book.now = search rules in
     let own = c.requires.own in
-    let steps : own.0.state.steps ≡ c.args.state.now.steps =
+    let steps =
     ap (λ (q : State g.row.M.Denot g.row.M-Mem.Denot g.row.M-Loc.Denot g.row.M-Form.Denot). q.steps) own.2 in
-    let bounded : own.0.state.steps < b.limit =
-    entry_steps g.M.Machine.rules b law.machine law.test law.findings law.law c.args.id own.0 own.1 in
-    let limit : b.limit ≤ 2000000 = law.law.limit in
-    omega arith
+    omega (arith, steps, entry_steps known c.args.id own.0 own.1, known.law.limit)
 
 -- the steps are those of the entry
 own : (g : Over) (c : After-enter g)
@@ -59,13 +55,11 @@ returns-in-Err-Stranger-clause-yes g c =
 
 pub returns-in-Ok-clause-yes : goal.returns-in-Ok-clause-yes
 returns-in-Ok-clause-yes g c =
-    let b = c.args.book.now in
     let x = c.in_ok-expansion.expansion in
-    let law = c.law.ensures in
+    let known : IsKnown g.M.Machine.rules c.args.book.now = search rules in
     let its = own g (goal.at.returns-in-Ok-clause-yes g c).After-enter in
     λ full. absurd (
     let expansion =
-    expansion_in g.M.Machine.rules b x full.entry.state its.machine its.program (its.source full.entry full.at)
-    c.law-2.ensures in
-    not_entered g.M.Machine.rules b law.machine law.test law.findings law.law full.entry full.successors x.successors
-    full.expansion expansion full.full c.enter.new.self c.args.id x _ _ refl c.in-Ok.ensures.entered)
+    expansion_in g.M.Machine.rules c.args.book.now x full.entry.state its.machine its.program
+    (its.source full.entry full.at) c.law-2.ensures in
+    not_entered known full.expansion expansion full.full c.in-Ok.ensures.entered)

@@ -1,6 +1,6 @@
-use Rattle.std.proofs.Common.{◌≡◌, ◌<◌, ◌∙◌, sym, inl, inr, length, arith, refl}
+use Rattle.std.proofs.Common.{◌≡◌, ◌∙◌, sym, inl, inr, length, arith, refl, rules}
 use Rattle.std.proofs.lemmas.Bool.{ltb-true, lt-ltb, cases_lt}
-use Rattle.crew.proofs.ReadOff.{sound_before, unsound_from}
+use Rattle.crew.proofs.ReadOff.{IsKnown, sound_before, unsound_from}
 use Rattle.crew.proofs.Soundness.{none_unsound}
 use Rattle.crew.proofs.reading.is_sound_to.Goals as goal
 
@@ -12,18 +12,15 @@ returns-in-None g c = (
 
 pub returns-in_ok-schedule_of-in-Some : goal.returns-in_ok-schedule_of-in-Some
 returns-in_ok-schedule_of-in-Some g c =
-    let law = c.law.ensures in
+    let known : IsKnown g.M.Machine.rules c.args.book.now = search rules in
     let first = sym c.first_fault.ensures ∙ c.in-Some.is in
     let way = c.in_ok-schedule_of-in-Some.ensures.leads in
     let v = c.in_ok-schedule_of-in-Some.field-0 in
     let long : c.len.result ≡ length v.items = c.len.ensures ∙ v.ok.0 in (
-      (λ h. let more : c.args.steps < c.len.result = ltb-true c.args.steps c.len.result h in
-          sound_before g.M.Machine.rules c.args.book.now law.machine law.test law.findings law.law c.in-Some.id first
-          v way c.args.steps (omega arith)),
+      (λ h. sound_before known c.in-Some.id first v way c.args.steps
+          (omega (arith, ltb-true c.args.steps c.len.result h))),
       (λ sound. elim (cases_lt c.args.steps c.len.result) [
         | inl l ↦ lt-ltb c.args.steps c.len.result l
-        | inr ge ↦ absurd
-            (unsound_from g.M.Machine.rules c.args.book.now law.machine law.test law.findings law.law c.in-Some.id
-            first v way c.args.steps (omega arith) sound)
+        | inr ge ↦ absurd (unsound_from known c.in-Some.id first v way c.args.steps (omega arith) sound)
       ]),
     )

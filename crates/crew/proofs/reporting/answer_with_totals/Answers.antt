@@ -4,9 +4,9 @@ use Rattle.crew.proofs.reporting.answer_with_totals.Goals as goal
 pub returns-in-Some-clause-report : goal.returns-in-Some-clause-report
 returns-in-Some-clause-report g c =
     let law = c.law.ensures in
-    reported g.M.Machine.rules c.args.machine c.args.program.now c.args.options c.args.book.now
+    reported g.M.Machine.rules c.args.machine c.args.program.now c.args.options c.args.book.now law.machine law.test
     c.read_answer.new.book c.in-Some.answer c.totals.result c.args.shares.now
-    (c.is_asked.ensures.0 c.if-not-is_asked.false) law.machine law.test
+    (c.is_asked.ensures.0 c.if-not-is_asked.false)
     (rw c.in-Some.is at c.in_ok-answer.ensures.read_off) (rw c.in-Some.is at c.in_ok-answer.ensures.same)
     c.totals.ensures.totals c.requires.shares c.requires.ledger
 

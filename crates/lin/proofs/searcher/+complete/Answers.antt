@@ -1,5 +1,5 @@
-use Rattle.std.proofs.Common.{refl, ◌≡◌, ℕ, ◌<◌, List, [], ◌∷◌, ◌++◌, ◌∙◌, sym, ap, subst, arith, true≢false}
-use Rattle.std.proofs.Common.{append-nil, All}
+use Rattle.std.proofs.Common.{refl, ◌≡◌, ℕ, List, [], ◌∷◌, ◌++◌, ◌∙◌, sym, ap, subst, arith, true≢false}
+use Rattle.std.proofs.Common.{append-nil}
 use Rattle.sched_program.specs.declared.operation.OpId.{OpId}
 use Rattle.lin.specs.Completion.{Listed, listed_in, Completes, EveryFinishedIsListed, IsHopeless}
 use Rattle.lin.specs.KeySet.{keys_in}
@@ -7,7 +7,7 @@ use Rattle.lin.specs.OpSet.{operations_in}
 use Rattle.lin.specs.Configuration.{IsHopelessAt}
 use Rattle.lin.proofs.Configurations.{All-found, All-kept}
 use Rattle.lin.proofs.Names.{each_more_read, each_all, IsSome-value_at_read}
-use Rattle.lin.proofs.Search.{unlisted_count, once_pushed, nothing_left, found_more, not_after, popped}
+use Rattle.lin.proofs.Search.{once_pushed, nothing_left, found_more, not_after, popped}
 use Rattle.lin.proofs.Steps.{every_listed}
 use Rattle.lin.proofs.searcher.+complete.Goals as goal
 use Rattle.lin.proofs.searcher.+complete.Goals.{in-Some+in_ok-push+in_ok-complete+else-branch, in_default}
@@ -28,8 +28,7 @@ returns-then-contains-clause-answer t c =
     All-found (IsHopelessAt program history) c.args.from.at c.args.failed.now.keys c.requires.failed
     (sym c.contains.ensures ∙ c.if-contains.true) in (
       refl {A = List OpId},
-      subst (λ listed. IsHopeless program history listed (keys_in c.args.from.at.keys))
-          c.requires.listed none,
+      rw c.requires.listed at none,
     )
 
 pub step-requires-clause-begun : goal.step-requires-clause-begun
@@ -45,7 +44,7 @@ complete-requires t c =
     (keys_in c.in-Some.next.at.keys) c.loop-name-item.result.0 c.requires.listed c.in-Some.ensures.stands
     c.loop-name.invariant.same c.in_ok-push.ensures.items (operations_in c.in-Some.next.at.listed)
     c.in-Some.ensures.listed in (
-      subst (λ n. unlisted_count (listed_in c.push.new.self.items) c.args.timeline.now.begun < n) c.decreases pushed.0,
+      rw c.decreases at pushed.0,
       (c.requires.limits, (pushed.1, (c.in-Some.ensures.barred, c.loop-name.invariant.failed))),
     )
 
@@ -72,15 +71,12 @@ loop-name-preserved t c =
     c.loop-name-item.result c.loop-name-test.true c.loop-name-item.is here c.loop-name.invariant.tried in
     elim c.match-step.branch [
       | in-Some+in_ok-push+in_ok-complete+else-branch w ↦
-          let pushed : w.push.new.self.items ≡ old ++ name ∷ [] =
-          w.in_ok-push.ensures.items ∙ ap (λ o. o ++ name ∷ []) same in
+          let pushed : w.push.new.self.items ≡ old ++ name ∷ [] = rw same at w.in_ok-push.ensures.items in
           let none = rw w.if-branch.false at w.in_ok-complete.ensures.answer in
           record {
             same = ap (λ v. v.items) w.order-is ∙ popped _ old _ name w.pop.result w.pop.ensures.items (none.0 ∙ pushed)
                 (λ some. w.pop.ensures.variant.1 (omega (arith, w.complete.new.order.ok.0, some)));
-            failed =
-                subst (λ s. All (IsHopelessAt program history) s.keys)
-                (sym w.failed-is) w.in_ok-complete.ensures.failed;
+            failed = rw w.failed-is w.in_ok-complete.ensures.failed;
             tried = more
                 (not_after program history old c.loop-name.order.items w.push.new.self.items
                 (operations_in c.args.from.at.listed) keys (keys_in w.in-Some.next.at.keys) name c.requires.listed
@@ -88,10 +84,8 @@ loop-name-preserved t c =
           }
       | in_default w ↦ record {
         same = ap (λ v. v.items) w.order-is ∙ same;
-        failed = subst (λ s. All (IsHopelessAt program history) s.keys) (sym w.failed-is) c.loop-name.invariant.failed;
-        tried = more
-            (subst (λ listed. (rest : List OpId) → Completes program history listed keys (name ∷ rest) → ⊥)
-            c.requires.listed w.in_default.ensures.stands);
+        failed = rw w.failed-is c.loop-name.invariant.failed;
+        tried = more (rw c.requires.listed at w.in_default.ensures.stands);
       }
     ]
 
@@ -122,7 +116,6 @@ returns-clause-failed t c =
     let program = c.args.program.now in
     let history = c.args.timeline.now in
     let here : IsHopelessAt program history c.args.from.at =
-    subst (λ listed. IsHopeless program history listed (keys_in c.args.from.at.keys)) (sym c.requires.listed)
-    (hopeless c) in
+    rw c.requires.listed (hopeless c) in
     All-kept (IsHopelessAt program history) c.args.from.at c.loop-name.failed c.insert.new.self c.in_ok-insert.field-0
     c.in_ok-insert.ensures.keys here c.loop-name.invariant.failed

@@ -1,16 +1,13 @@
-use Rattle.std.proofs.Common.{◌≡◌, ◌<◌, length, sym, ◌∙◌, ap, subst, get_or, arith}
-use Rattle.std.specs.Prelude.{IfSome}
-use Rattle.std.specs.List.{All}
-use Rattle.tree_machine.specs.Cells.{met, met_in}
+use Rattle.std.proofs.Common.{◌≡◌, length, sym, ◌∙◌, ap, arith}
+use Rattle.tree_machine.specs.Cells.{met_in}
 use Rattle.tree_machine.proofs.Walks.{root_next, met_in_end, visit_in_range, met_in_next}
 use Rattle.tree_machine.proofs.cells.walk.Goals as goal
 use Rattle.tree_machine.proofs.cells.walk.Goals.{else-loop-visits-test, then-loop-visits-test+in-None}
 
 pub loop-root-preserved : goal.loop-root-preserved
 loop-root-preserved c = record {
-  order = c.in_ok-_place.ensures.order
-      ∙ (ap (λ o. met o (get_or c.args.roots.now c.loop-root.root-index 0)) c.loop-root.invariant.order
-      ∙ root_next c.args.roots.now c.loop-root.root-index 0 c.requires.roots_distinct c.loop-root-test.true);
+  order = rw (c.in_ok-_place.ensures.order, c.loop-root.invariant.order)
+      (root_next c.args.roots.now c.loop-root.root-index 0 c.requires.roots_distinct c.loop-root-test.true);
   range = c.in_ok-_place.ensures.range ∙ c.loop-root.invariant.range;
 }
 
@@ -19,9 +16,7 @@ visit-requires c = record {
   cell_in_range =
       visit_in_range c.args.cells.now c.args.roots.now c.loop-visits.order.order.items c.loop-visits.visits
       c.in-Some.cell c.requires c.loop-visits.invariant.order (sym c.in-Some.ensures);
-  refs_in_range =
-      subst (λ n. All (λ d. All (λ r. IfSome r (λ x. x < n)) d.refs) c.args.cells.now)
-      (sym c.loop-visits.invariant.range) c.requires.refs_in_range;
+  refs_in_range = rw c.loop-visits.invariant.range c.requires.refs_in_range;
 }
 
 pub loop-visits-preserved : goal.loop-visits-preserved

@@ -9,8 +9,7 @@ returns-in-Some-get g c =
     let found = c.in-Some-get.ensures.lookup in
     let there : c.from.result < length c.args.threads.now = omega (arith, found) in
     let is : c.in-Some-get.other.now ≡ get_or c.args.threads.now c.from.result c.in-Some-get.other.now = search rules in
-    due_by c.args.program.now c.args.threads.now c.args.t c.args.thread.now c.in-Some-get.other.now c.len-index.result
-    c.in-Some.other c.from.result c.in-Some.count c.from-in-Some-get.result c.len.result c.if-is_some.ensures
+    due_by c.args.program.now c.args.threads.now c.args.t c.args.thread.now c.if-is_some.ensures
     c.len-index.ensures.value c.in-Some.ensures c.from.ensures
-    (slice_get_read c.args.threads.now (length c.args.threads.now) c.from.result c.in-Some-get.other.now refl
-    there is) c.from-in-Some-get.ensures c.len.ensures.value
+    (slice_get_read c.args.threads.now (length c.args.threads.now) c.from.result c.in-Some-get.other.now refl there is)
+    c.from-in-Some-get.ensures c.len.ensures.value

@@ -1,8 +1,6 @@
 -- The next operation is the one found, if it may begin.
 use Rattle.std.proofs.Common.{rules, ◌≡◌, ◌<◌, length, get_or, refl, arith}
-use Rattle.std.specs.Option.{option_copied}
 use Rattle.std.proofs.lemmas.Option.{slice_get_read}
-use Rattle.tree_machine.specs.Step.{finished_counts}
 use Rattle.tree_machine.proofs.Steps.{next_due, next_not_due}
 use Rattle.tree_machine.proofs.state.next_op.Goals as goal
 
@@ -14,16 +12,14 @@ returns-then-is_due g c =
     let there : c.from.result < length threads = omega (arith, found) in
     let is : ops ≡ get_or threads c.from.result ops = search rules in
     record {
-      value = next_due c.args.program.now (finished_counts c.args.threads.now) c.args.t c.args.thread.now threads
-          c.from.result c.len.result ops (option_copied c.get-2.result) c.in_ok-op.op c.threads.ensures.value
-          c.from.ensures c.len.ensures.value (slice_get_read threads (length threads) c.from.result ops refl there is)
+      value = next_due c.args.program.now _ c.args.t c.args.thread.now c.threads.ensures.value c.from.ensures
+          c.len.ensures.value (slice_get_read threads (length threads) c.from.result ops refl there is)
           c.in_ok-op.ensures c.get-2.ensures c.if-is_due.ensures;
       limits = c.threads.ensures.limits;
     }
 
 pub returns-else-is_due : goal.returns-else-is_due
 returns-else-is_due g c = record {
-  value = next_not_due c.args.program.now (finished_counts c.args.threads.now) c.args.t c.args.thread.now
-      c.if-is_due.ensures;
+  value = next_not_due c.args.program.now _ c.args.t c.args.thread.now c.if-is_due.ensures;
   limits = tt;
 }

@@ -20,9 +20,7 @@ with_op_log : (replies others : List (List Bool)) (notes twins : List (List (Lis
     → bytes ≡ flat_map replies_code replies ++ (list_code (list_code note_code) notes ++ (astray_code astray ++ rest))
     → others ≡ replies → twins ≡ notes → rest ≡ whole
     → bytes ≡ flat_map replies_code others ++ (list_code (list_code note_code) twins ++ (astray_code astray ++ whole))
-with_op_log replies others notes twins astray bytes rest whole read same alike is =
-    read ∙ (λ i. flat_map replies_code (sym same i)
-    ++ (list_code (list_code note_code) (sym alike i) ++ (astray_code astray ++ is i)))
+with_op_log replies others notes twins astray bytes rest whole read same alike is = rw (same, alike, ← is) read
 
 pub returns-clause-read : goal.returns-clause-read
 returns-clause-read g c =

@@ -28,16 +28,12 @@ returns-in-None-clause-closed g c =
 pub returns-in-None-clause-every : goal.returns-in-None-clause-every
 returns-in-None-clause-every g c =
     let b = c.args.self.now in
-    let s = c.self.inside in
-    let m = machine_in g.M.Machine.rules b in
-    let right = right_in g.M.Machine.rules b in
     let law = c.law.ensures in
-    let same = law.test.0 in
-    let tested = book_back m law.machine (AreOneBy same) _ law.test.2 right b law.law in
-    let out = worked_out s.table.entries (sym c.first_left.ensures ∙ c.in-None.is) in
-    λ _ sound. closed_holds m same right law.machine law.test.1
-    (λ r t r_fits t_fits one found.
-    (found.0, law.findings r t r_fits t_fits ((law.test.2 r t r_fits t_fits).0 one) found.0 found.1, found.2))
+    let tested = book_back _ law.machine (AreOneBy law.test.0) _ law.test.2 _ _ law.law in
+    let out = worked_out c.self.inside.table.entries (sym c.first_left.ensures ∙ c.in-None.is) in
+    λ _ sound. closed_holds (machine_in g.M.Machine.rules b) law.test.0 (right_in g.M.Machine.rules b) law.machine
+    law.test.1
+    (λ r s f h one found. (found.0, law.findings r s f h ((law.test.2 r s f h).0 one) found.0 found.1, found.2))
     b.entries tested.law (rw (← c.self.view_is) out) sound
 
 pub returns-in-Some-clause-every : goal.returns-in-Some-clause-every

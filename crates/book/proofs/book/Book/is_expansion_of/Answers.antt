@@ -2,8 +2,6 @@ use Rattle.std.proofs.Common.{◌≡◌, ap, refl, sym, ◌∙◌}
 use Rattle.std.proofs.lemmas.Option.{slice_get_within}
 use Rattle.tree_machine.specs.FormCode.{state_code}
 use Rattle.tree_machine.specs.Laws.Codes.{state_code_tells, own_tells}
-use Rattle.tree_machine.specs.declared.state.State.{State}
-use Rattle.book.specs.Entries.{Contents}
 use Rattle.book.proofs.Entering.{own_from}
 use Rattle.book.proofs.EntryLabels.{exact_label}
 use Rattle.book.proofs.book.Book.is_expansion_of.Goals as goal
@@ -16,27 +14,17 @@ label-requires g c =
 pub returns-in-Exact-clause-answer : goal.returns-in-Exact-clause-answer
 returns-in-Exact-clause-answer g c =
     let s = c.self.inside in
-    let b : Contents g.row.M.Denot (State g.row.M.Denot g.row.M-Mem.Denot g.row.M-Loc.Denot g.row.M-Form.Denot) =
-    record {
-      machine = s.machine;
-      program = s.program;
-      merge = s.merge;
-      limit = s.limit;
-      entries = s.table.entries;
-      met = s.met;
-    } in
     let x = c.args.expansion.now in
-    let bound = g.met.M.Encode g.world.𝓛 g.world.𝓜 g.world.𝓡 ((λ s x. x), (λ x. x), (λ x. x), λ x. x) in
     let coding = g.met.M.Encode g.world.𝓛 g.world.𝓜 g.world.𝓡 ((λ s x. x), (λ x. x), (λ x. x), λ x. x) in
     let tells = own_tells g.M.Encode.front_code g.M.Encode.behind_code g.M.Encode.own_code coding.tells
-    bound.own_cut in
+    coding.own_cut in
     let taken = rw (← c.self.view_is) at c.requires in
     let code : c.label.result.now ≡ state_code g.M.Encode.own_code taken.0.state =
     exact_label g.M.Encode.own_code g.M.Encode.form_code (g.M.Machine.form_of s.machine) s.merge c.in-Exact.is
     s.table c.self.invariant.1 c.args.id taken.0 taken.1 c.label.result.now c.label.ensures in
     rw (← c.self.view_is) (
       (λ yes. let own = c.is_coded.ensures.0 yes in
-          own_from {X = g.row.M.Denot} b c.args.id taken.0 x.machine x.program x.source taken.0.state taken.1 refl
+          own_from {X = g.row.M.Denot} _ c.args.id taken.0 x.machine x.program x.source taken.0.state taken.1 refl
           own.0 own.1
           (state_code_tells g.M.Encode.own_code tells x.source taken.0.state (own.2 ∙ code))),
       (λ own. c.is_coded.ensures.1 (
@@ -49,20 +37,11 @@ returns-in-Exact-clause-answer g c =
 pub returns-in_ok-state-in-Names-clause-answer : goal.returns-in_ok-state-in-Names-clause-answer
 returns-in_ok-state-in-Names-clause-answer g c =
     let s = c.self.inside in
-    let b : Contents g.row.M.Denot (State g.row.M.Denot g.row.M-Mem.Denot g.row.M-Loc.Denot g.row.M-Form.Denot) =
-    record {
-      machine = s.machine;
-      program = s.program;
-      merge = s.merge;
-      limit = s.limit;
-      entries = s.table.entries;
-      met = s.met;
-    } in
     let x = c.args.expansion.now in
     let there = rw (← c.self.view_is) at c.in_ok-state-in-Names.ensures in
     rw (← c.self.view_is) (
       (λ yes. let own = c.is_of.ensures.0 yes in
-          own_from {X = g.row.M.Denot} b c.args.id there.0 x.machine x.program x.source c.in_ok-state-in-Names.state
+          own_from {X = g.row.M.Denot} _ c.args.id there.0 x.machine x.program x.source c.in_ok-state-in-Names.state
           there.1 (sym there.2) own.0 own.1 own.2),
       (λ own. c.is_of.ensures.1 (own.machine, own.program, own.source there.0 there.1 ∙ there.2)),
     )

@@ -1,14 +1,12 @@
 use Rattle.std.proofs.Common.{sym, ◌∙◌}
 use Rattle.std.proofs.lemmas.Bool.{leb-false, leb-true}
-use Rattle.std.proofs.lemmas.Option.{slice_get_within}
-use Rattle.book.proofs.Left.{first_is_left}
+use Rattle.book.proofs.Cursors.{first_within}
 use Rattle.book.proofs.InBook.{all_expanded_to, left_to, none_left_to}
 use Rattle.book.proofs.book.Book.is_left_to.Goals as goal
 
 pub steps_to-requires-after_bounds : goal.steps_to-requires-after_bounds
 steps_to-requires-after_bounds g c κs within =
-    let here = first_is_left c.self.inside.table.entries c.in-Some.first (sym c.first_left.ensures ∙ c.in-Some.is) in
-    rw (← c.self.view_is) (slice_get_within c.self.inside.table.entries c.in-Some.first here.0 here.1)
+    rw (← c.self.view_is) (first_within _ _ _ (sym c.first_left.ensures ∙ c.in-Some.is))
 
 pub returns-in-None-clause-none : goal.returns-in-None-clause-none
 returns-in-None-clause-none g c =
@@ -18,13 +16,11 @@ returns-in-None-clause-none g c =
 pub returns-in-Some-clause-left : goal.returns-in-Some-clause-left
 returns-in-Some-clause-left g c =
     rw (← c.self.view_is)
-    (λ h. left_to c.self.invariant.0 c.in-Some.first c.steps_to.result c.args.steps
-    (sym c.first_left.ensures ∙ c.in-Some.is) (rw (← c.self.view_is) at c.steps_to.ensures)
-    (leb-true c.steps_to.result c.args.steps h))
+    (λ h. left_to c.self.invariant.0 _ _ _ (sym c.first_left.ensures ∙ c.in-Some.is)
+    (rw (← c.self.view_is) at c.steps_to.ensures) (leb-true _ _ h))
 
 pub returns-in-Some-clause-none : goal.returns-in-Some-clause-none
 returns-in-Some-clause-none g c =
     rw (← c.self.view_is)
-    (λ h. none_left_to c.self.invariant.0 c.in-Some.first c.steps_to.result c.args.steps
-    (sym c.first_left.ensures ∙ c.in-Some.is) (rw (← c.self.view_is) at c.steps_to.ensures)
-    (leb-false c.steps_to.result c.args.steps h))
+    (λ h. none_left_to c.self.invariant.0 _ _ _ (sym c.first_left.ensures ∙ c.in-Some.is)
+    (rw (← c.self.view_is) at c.steps_to.ensures) (leb-false _ _ h))

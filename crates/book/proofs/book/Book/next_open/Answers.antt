@@ -1,20 +1,15 @@
 use Rattle.std.proofs.Common.{sym, ◌∙◌}
-use Rattle.std.proofs.lemmas.Option.{slice_get_within}
-use Rattle.book.proofs.Left.{first_is_left, open_is_left}
+use Rattle.book.proofs.Cursors.{first_within}
 use Rattle.book.proofs.InBook.{none_of_expanded, none_of_open, open_is_later, open_is_next}
 use Rattle.book.proofs.book.Book.next_open.Goals as goal
 
 pub steps_to-requires-after_bounds : goal.steps_to-requires-after_bounds
 steps_to-requires-after_bounds g c κs within =
-    let here =
-    open_is_left c.self.inside.table.entries c.in_ok-open.open (sym c.first_open.ensures.first ∙ c.in_ok-open.was) in
-    rw (← c.self.view_is) (slice_get_within c.self.inside.table.entries c.in_ok-open.open here.0 here.1)
+    rw (← c.self.view_is) (first_within _ _ _ (sym c.first_open.ensures.first ∙ c.in_ok-open.was))
 
 pub steps_to-requires-2-after_bounds : goal.steps_to-requires-2-after_bounds
 steps_to-requires-2-after_bounds g c κs within =
-    let here =
-    first_is_left c.self.inside.table.entries c.in_ok-first.first (sym c.first_left.ensures ∙ c.in_ok-first.was) in
-    rw (← c.self.view_is) (slice_get_within c.self.inside.table.entries c.in_ok-first.first here.0 here.1)
+    rw (← c.self.view_is) (first_within _ _ _ (sym c.first_left.ensures ∙ c.in_ok-first.was))
 
 pub returns-in_err-first-clause-none : goal.returns-in_err-first-clause-none
 returns-in_err-first-clause-none g c =
@@ -29,18 +24,16 @@ returns-in_err-open-clause-none g c =
 pub returns-then-steps_to-clause-next : goal.returns-then-steps_to-clause-next
 returns-then-steps_to-clause-next g c =
     rw (← c.self.view_is)
-    (open_is_next c.self.invariant.0 c.in_ok-first.first c.in_ok-open.open c.steps_to-2.result c.steps_to.result
-    (sym c.first_left.ensures ∙ c.in_ok-first.was)
-    (sym c.first_open.ensures.first ∙ c.in_ok-open.was) (rw (← c.self.view_is) at c.steps_to-2.ensures)
-    (rw (← c.self.view_is) at c.steps_to.ensures) c.if-steps_to.true)
+    (open_is_next c.self.invariant.0 _ _ _ _ (sym c.first_left.ensures ∙ c.in_ok-first.was)
+    (sym c.first_open.ensures.first ∙ c.in_ok-open.was)
+    (rw (← c.self.view_is) at c.steps_to-2.ensures) (rw (← c.self.view_is) at c.steps_to.ensures) c.if-steps_to.true)
 
 pub returns-else-steps_to-clause-none : goal.returns-else-steps_to-clause-none
 returns-else-steps_to-clause-none g c =
     rw (← c.self.view_is)
-    (open_is_later c.self.invariant.0 c.in_ok-first.first c.in_ok-open.open c.steps_to-2.result c.steps_to.result
-    (sym c.first_left.ensures ∙ c.in_ok-first.was)
-    (sym c.first_open.ensures.first ∙ c.in_ok-open.was) (rw (← c.self.view_is) at c.steps_to-2.ensures)
-    (rw (← c.self.view_is) at c.steps_to.ensures) c.if-steps_to.false)
+    (open_is_later c.self.invariant.0 _ _ _ _ (sym c.first_left.ensures ∙ c.in_ok-first.was)
+    (sym c.first_open.ensures.first ∙ c.in_ok-open.was)
+    (rw (← c.self.view_is) at c.steps_to-2.ensures) (rw (← c.self.view_is) at c.steps_to.ensures) c.if-steps_to.false)
 
 pub returns-then-steps_to-clause-open : goal.returns-then-steps_to-clause-open
 returns-then-steps_to-clause-open g c =

@@ -1,6 +1,4 @@
-use Rattle.std.proofs.Common.{refl, ap, reverse}
-use Rattle.tree_machine.specs.declared.state.State.{State}
-use Rattle.book.specs.Entries.{Contents}
+use Rattle.std.proofs.Common.{refl, reverse}
 use Rattle.book.proofs.InBook.{at_start, earlier_origin, no_other_way, one_back, way_leads_to}
 use Rattle.book.proofs.book.Book.schedule_of.Goals as goal
 
@@ -8,11 +6,7 @@ pub loop-origin-init : goal.loop-origin-init
 loop-origin-init g c = (c.requires, rw c.new-schedule.ensures.items refl)
 
 pub origin-requires : goal.origin-requires
-origin-requires g c =
-    let entries =
-    ap (λ (q : Contents g.row.M.Denot
-    (State g.row.M.Denot g.row.M-Mem.Denot g.row.M-Loc.Denot g.row.M-Form.Denot)). q.entries) c.self.view_is in
-    rw entries c.loop-origin.invariant.0
+origin-requires g c = rw (← c.self.view_is) at c.loop-origin.invariant.0
 
 pub loop-origin-smaller : goal.loop-origin-smaller
 loop-origin-smaller g c =

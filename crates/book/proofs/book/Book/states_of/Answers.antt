@@ -1,14 +1,11 @@
-use Rattle.std.proofs.Common.{◌<◌, ◌≤◌, ℕ, arith, length, refl, Global}
+use Rattle.std.proofs.Common.{ℕ, arith, refl, Global}
 use Rattle.std.specs.declared.sync.Arc.{Arc}
 use Rattle.tree_machine.specs.declared.state.State.{State}
 use Rattle.book.proofs.Ranges.{numbers_more, states_more}
 use Rattle.book.proofs.book.Book.states_of.Goals as goal
 
 pub state_of-requires-after_bounds : goal.state_of-requires-after_bounds
-state_of-requires-after_bounds g c κs within =
-    let less : c.loop-index.index < c.args.end = c.loop-index-test.true in
-    let within : c.args.end ≤ length c.args.self.now.entries = c.requires.within in
-    omega arith
+state_of-requires-after_bounds g c κs within = omega (arith, c.loop-index-test.true, c.requires.within)
 
 pub loop-index-preserved : goal.loop-index-preserved
 loop-index-preserved g c =

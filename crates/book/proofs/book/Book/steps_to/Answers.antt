@@ -1,7 +1,5 @@
-use Rattle.std.proofs.Common.{◌≡◌, ◌<◌, ◌≤◌, ◌+◌, ◌++◌, ◌∷◌, [], ap, ◌∙◌, arith, length, refl, reverse, sym}
+use Rattle.std.proofs.Common.{◌≡◌, ◌<◌, ◌≤◌, ◌+◌, ◌++◌, ◌∷◌, [], ◌∙◌, arith, length, refl, reverse, sym}
 use Rattle.std.proofs.lemmas.List.{length-reverse, length_push}
-use Rattle.tree_machine.specs.declared.state.State.{State}
-use Rattle.book.specs.Entries.{Contents}
 use Rattle.book.proofs.InBook.{at_start, earlier_origin, one_back, way_leads_to}
 use Rattle.book.proofs.book.Book.steps_to.Goals as goal
 
@@ -9,11 +7,7 @@ pub loop-origin-init : goal.loop-origin-init
 loop-origin-init g c = (c.requires, omega arith, ([], refl, refl))
 
 pub origin-requires : goal.origin-requires
-origin-requires g c =
-    let entries =
-    ap (λ (q : Contents g.row.M.Denot
-    (State g.row.M.Denot g.row.M-Mem.Denot g.row.M-Loc.Denot g.row.M-Form.Denot)). q.entries) c.self.view_is in
-    rw entries c.loop-origin.invariant.0
+origin-requires g c = rw (← c.self.view_is) at c.loop-origin.invariant.0
 
 pub loop-origin-smaller : goal.loop-origin-smaller
 loop-origin-smaller g c =

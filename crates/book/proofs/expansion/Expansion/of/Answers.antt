@@ -1,15 +1,12 @@
 -- The steps are put thread by thread.
-use Rattle.std.proofs.Common.{◌≡◌, ◌≤◌, length, ap, subst, arith}
-use Rattle.replay.specs.Findings.{machine_of, IsFindingOf}
-use Rattle.book.proofs.ThreadSteps.{IsFront, front_none, front_put, expansion_from_front}
+use Rattle.std.proofs.Common.{◌≡◌, ◌≤◌, length, ap, arith}
+use Rattle.book.proofs.ThreadSteps.{front_none, front_put, expansion_from_front}
 use Rattle.book.proofs.expansion.Expansion.of.Goals as goal
 
 pub loop-thread-init : goal.loop-thread-init
 loop-thread-init g c =
-    let rules = g.M.Machine.rules c.args.machine in
     record {
-      front = rw c.in_ok-successors.ensures.items
-          (front_none (machine_of rules c.args.program.now) (IsFindingOf rules c.args.program.now) c.args.state.now);
+      front = rw c.in_ok-successors.ensures.items (front_none _ _ c.args.state.now);
       len = (let none = ap length c.in_ok-successors.ensures.items in
           let all = c.in_ok-successors.successors.ok.0 in omega (arith, none, all));
       room = c.in_ok-successors.ensures.capacity;
@@ -18,11 +15,8 @@ loop-thread-init g c =
 -- a thread that is enabled adds its step, and another adds none
 pub loop-thread-preserved : goal.loop-thread-preserved
 loop-thread-preserved g c =
-    let rules = g.M.Machine.rules c.args.machine in
-    let m = machine_of {Machine = g.row.M.Denot} {Form = g.row.M-Form.Denot} rules c.args.program.now in
-    let right = IsFindingOf {Machine = g.row.M.Denot} {Form = g.row.M-Form.Denot} rules c.args.program.now in
     record {
-      front = front_put m right c.args.state.now c.loop-thread.thread c.loop-thread.successors.items
+      front = front_put _ _ c.args.state.now c.loop-thread.thread c.loop-thread.successors.items
           c.put_step.new.steps.items c.loop-thread.invariant.front c.in_ok-put_step.ensures.put;
       len = (let one = c.in_ok-put_step.ensures.len in
           let so_far = c.loop-thread.invariant.len in omega (arith, one, so_far));
@@ -32,16 +26,11 @@ loop-thread-preserved g c =
 
 pub invariant_of-result : goal.invariant_of-result
 invariant_of-result g c =
-    let rules = g.M.Machine.rules c.args.machine in
-    let m = machine_of {Machine = g.row.M.Denot} {Form = g.row.M-Form.Denot} rules c.args.program.now in
-    let right = IsFindingOf {Machine = g.row.M.Denot} {Form = g.row.M-Form.Denot} rules c.args.program.now in
-    let steps = c.loop-thread.successors.items in
     let most : c.loop-thread.thread ≤ length c.threads-threads.result.now = c.loop-thread.auto.thread-end in
     let least : length c.threads-threads.result.now ≤ c.loop-thread.thread = c.loop-thread-test.false in
     let all : length c.threads-threads.result.now ≡ length c.args.program.now.threads =
     ap length c.threads-threads.ensures.value in
     let done : c.loop-thread.thread ≡ length c.args.program.now.threads = omega arith in (
-      expansion_from_front m right c.args.state.now steps
-          (subst (λ n. IsFront m right c.args.state.now n steps) done c.loop-thread.invariant.front),
+      expansion_from_front _ _ c.args.state.now _ (rw done at c.loop-thread.invariant.front),
       c.in_ok-code.ensures,
     )

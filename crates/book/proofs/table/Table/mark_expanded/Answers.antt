@@ -1,4 +1,4 @@
-use Rattle.std.proofs.Common.{◌≡◌, ◌≤◌, length, sym, ap, arith, subst, List}
+use Rattle.std.proofs.Common.{◌≤◌, length, sym, ap, arith, subst, List}
 use Rattle.book.specs.declared.entry.Mark.TheVariants.{Expanded}
 use Rattle.book.specs.Entries.{Entry, IsTaken, with_mark}
 use Rattle.book.specs.Labels.{Kept}
@@ -17,12 +17,9 @@ first_left_from-self-inside-requires-clause-before g c =
 pub first_left_from-self-inside-requires-clause-within : goal.first_left_from-self-inside-requires-clause-within
 first_left_from-self-inside-requires-clause-within g c =
     let s = c.self.inside in
-    let n : length (entries_of c.mark_at.new.slots.entries) ≡ length c.mark_at.new.slots.entries =
-    length-entries c.mark_at.new.slots.entries in
-    let m : length (entries_of c.mark_at.new.slots.entries)
-    ≡ length (with_mark (entries_of s.slots.entries) c.args.index Expanded) = ap length c.mark_at.ensures.entries in
-    let l : length (with_mark (entries_of s.slots.entries) c.args.index Expanded)
-    ≡ length (entries_of s.slots.entries) = length-with_mark (entries_of s.slots.entries) c.args.index Expanded in
+    let n = length-entries c.mark_at.new.slots.entries in
+    let m = ap length c.mark_at.ensures.entries in
+    let l = length-with_mark (entries_of s.slots.entries) c.args.index Expanded in
     let w : s.first_left ≤ length (entries_of s.slots.entries) = c.self.invariant.left.within in
     omega arith
 
@@ -31,8 +28,7 @@ invariant_of-self g c =
     let s = c.self.inside in
     let es : List (Entry g.row.S.Denot) = entries_of s.slots.entries in
     let taken : IsTaken es c.args.index =
-    subst (λ (k : Kept g.row.S.Denot). IsTaken k.entries c.args.index) (sym c.self.view_is)
-    c.requires in
+    subst (λ (k : Kept g.row.S.Denot). IsTaken k.entries c.args.index) (sym c.self.view_is) c.requires in
     let is_left : IsFirstLeft (with_mark es c.args.index Expanded) c.first_left_from-self-inside.result =
     subst (λ (ds : List (Entry g.row.S.Denot)). IsFirstLeft ds c.first_left_from-self-inside.result)
     c.mark_at.ensures.entries c.first_left_from-self-inside.ensures in

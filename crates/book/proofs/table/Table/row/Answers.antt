@@ -1,4 +1,4 @@
-use Rattle.std.proofs.Common.{◌≡◌, ◌<◌, ◌≤◌, length, ap, sym, arith}
+use Rattle.std.proofs.Common.{◌≡◌, length, ap, sym, arith}
 use Rattle.std.proofs.lemmas.Option.{slice_get_past}
 use Rattle.book.specs.Labels.{Kept}
 use Rattle.book.specs.Slots.{entries_of}
@@ -8,9 +8,7 @@ use Rattle.book.proofs.table.Table.row.Goals as goal
 pub entry-requires : goal.entry-requires
 entry-requires g c =
     let s = c.self.inside in
-    let l : length (entries_of s.slots.entries) ≡ length s.slots.entries = length-entries s.slots.entries in
-    let n : c.len.result ≡ length s.slots.entries = c.len.ensures.len in
-    let less : c.args.index < c.len.result = c.if-index-len.true in
+    let l = length-entries s.slots.entries in
     let same : length (entries_of s.slots.entries) ≡ length c.args.self.now.entries =
     ap (λ (k : Kept g.row.S.Denot). length k.entries) c.self.view_is in
     omega arith
@@ -21,7 +19,5 @@ returns-then-index-len g c = sym c.entry.ensures
 pub returns-else-index-len : goal.returns-else-index-len
 returns-else-index-len g c =
     let s = c.self.inside in
-    let l : length (entries_of s.slots.entries) ≡ length s.slots.entries = length-entries s.slots.entries in
-    let n : c.len.result ≡ length s.slots.entries = c.len.ensures.len in
-    let le : c.len.result ≤ c.args.index = c.if-index-len.false in
+    let l = length-entries s.slots.entries in
     rw (← c.self.view_is) (sym (slice_get_past (entries_of s.slots.entries) c.args.index (omega arith)))

@@ -1,5 +1,5 @@
 -- The last state has the view of the seat that is every seat.
-use Rattle.std.proofs.Common.{arith, ap, sym, subst, ◌∙◌, ℕ, IsPermutation}
+use Rattle.std.proofs.Common.{arith, ap, sym, ◌∙◌}
 use Rattle.std.proofs.lemmas.List.Sorted.{IsPermutation-trans, IsPermutation-sym, length_permutation}
 use Rattle.std.proofs.lemmas.List.FromFn.{length-range_with_len}
 use Rattle.claims.specs.Values.{Counter}
@@ -17,10 +17,7 @@ returns-clause-once c =
     let end =
     ends_at _ _ _ _ last.0 _ last.1 c.self.invariant.0 all
     (first_word last.0.words _ c.word-word.result last.2 c.word-word.ensures) in
-    IsPermutation-trans (below c.min-drawn.result) c.gather-whole.result.me.0.places (places_drawn c.args.seats.items)
-    (subst (λ (n : ℕ). IsPermutation (below n) c.gather-whole.result.me.0.places) (sym c.min-drawn.ensures) end.drawn)
-    (IsPermutation-sym (places_drawn c.args.seats.items) c.gather-whole.result.me.0.places
-    c.gather-whole.ensures.places)
+    rw c.min-drawn.ensures (IsPermutation-trans _ _ _ end.drawn (IsPermutation-sym _ _ c.gather-whole.ensures.places))
 
 pub returns-clause-drawn : goal.returns-clause-drawn
 returns-clause-drawn c =

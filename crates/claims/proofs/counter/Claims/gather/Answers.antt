@@ -1,9 +1,9 @@
 -- Each turn joins one more seat.
-use Rattle.std.proofs.Common.{rules, arith, ap, sym, subst, ◌∙◌, ◌≡◌, ◌++◌, [], ◌∷◌, List, ℕ, IsPermutation}
+use Rattle.std.proofs.Common.{rules, arith, ap, sym, ◌∙◌, ◌≡◌, ◌++◌, [], ◌∷◌}
 use Rattle.std.proofs.lemmas.List.Elements.{All-pop}
 use Rattle.claims.specs.Values.{Seated}
 use Rattle.claims.specs.declared.view.Draws.{Draws}
-use Rattle.claims.specs.Seats.{IsSeatOf, places_drawn}
+use Rattle.claims.specs.Seats.{IsSeatOf}
 use Rattle.claims.proofs.Steps.{join_kept}
 use Rattle.claims.proofs.Turns.{Knows, more_places, fewer_spent, fewer_seats}
 use Rattle.claims.proofs.counter.Claims.gather.Goals as goal
@@ -28,25 +28,7 @@ loop-seat-preserved c =
       knows = ap (λ (m : Knows). m.0.size) me ∙ i.knows;
       seats = (All-pop (IsSeatOf c.args.self.now) c.loop-seat.seats.items c.pop-in-loop-seat.new.self.items
           c.pop-in-loop-seat.result c.pop-in-loop-seat.ensures.items i.seats).0;
-      held = omega (
-        arith,
-        joined,
-        had,
-        i.held,
-        fewer_seats c.loop-seat.seats.items c.pop-in-loop-seat.new.self.items c.in-Some-pop.seat p,
-      );
-      spent = omega (
-        arith,
-        spent,
-        stated,
-        i.spent,
-        fewer_spent c.loop-seat.seats.items c.pop-in-loop-seat.new.self.items c.in-Some-pop.seat p,
-      );
-      places =
-          subst (λ (l : List ℕ). IsPermutation (places_drawn c.args.seats.items)
-          (places_drawn c.pop-in-loop-seat.new.self.items ++ l))
-          (sym (ap (λ (m : Knows). m.0.places) me
-          ∙ ap (λ (v : Draws). c.loop-seat.whole.me.0.places ++ v.places) (sym drew)))
-          (more_places (places_drawn c.args.seats.items) c.loop-seat.whole.me.0.places c.loop-seat.seats.items
-          c.pop-in-loop-seat.new.self.items c.in-Some-pop.seat p i.places);
+      held = omega (arith, joined, had, i.held, fewer_seats _ _ _ p);
+      spent = omega (arith, spent, stated, i.spent, fewer_spent _ _ _ p);
+      places = rw (me, ← drew) (more_places _ _ _ _ _ p i.places);
     }

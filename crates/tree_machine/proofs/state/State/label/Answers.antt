@@ -10,7 +10,5 @@ write_code-requires-clause-places_in_range g c =
 pub returns : goal.returns
 returns g c =
     label_put c.args.naming g.M.Encode.own_code g.M.Encode.form_code (g.M.Machine.form_of c.args.machine)
-    c.args.self.now c.as_slice-threads.result.now c.label_steps.result c.clear.new.self c.put_number.new.self
-    c.put_op_log.new.self c.write_code.new.buffer c.as_slice.result.now c.in_ok-copied_in.field-0
-    c.as_slice-threads.ensures c.label_steps.ensures c.clear.ensures c.in_ok-put_number.ensures
+    c.args.self.now c.as_slice-threads.ensures c.label_steps.ensures c.clear.ensures c.in_ok-put_number.ensures
     c.in_ok-put_op_log.ensures c.in_ok-write_code.ensures c.as_slice.ensures c.in_ok-copied_in.ensures

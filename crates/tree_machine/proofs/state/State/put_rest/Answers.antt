@@ -1,8 +1,8 @@
-use Rattle.std.proofs.Common.{◌∙◌, sym}
+use Rattle.std.proofs.Common.{◌∙◌, refl, sym, append-nil}
 use Rattle.std.proofs.lemmas.Result.{on_ok_weaker}
 use Rattle.tree_machine.specs.FormCode.{cut_code}
 use Rattle.tree_machine.proofs.Forms.{held_in_range}
-use Rattle.tree_machine.proofs.Labels.{read_from, rest_written}
+use Rattle.tree_machine.proofs.Labels.{read_from}
 use Rattle.tree_machine.proofs.state.State.put_rest.Goals as goal
 
 pub write_behind-requires-clause-places_in_range : goal.write_behind-requires-clause-places_in_range
@@ -26,11 +26,7 @@ write_behind-requires-clause-read g c =
 
 pub returns-else-reads : goal.returns-else-reads
 returns-else-reads g c =
-    let origin = c.args.origin.now in
-    let mem = c.args.self.now.memory in
     on_ok_weaker c.write_code.result
-    (λ put before e. rest_written c.args.naming g.M.Encode.own_code g.M.Encode.form_code
-    (g.M.Machine.form_of c.args.machine) mem c.as_slice-threads.result.now c.args.self.now.threads
-    origin.undo.now.reads (g.M.Encode.front_code origin.offsets.front mem) before c.args.buffer.now
-    c.write_code.new.buffer (sym c.reads.ensures ∙ c.if-reads.false) c.as_slice-threads.ensures put e)
-    c.write_code.ensures
+    (λ put before e. put
+    ∙ rw (e, sym c.reads.ensures ∙ c.if-reads.false, c.as_slice-threads.ensures, append-nil before)
+    refl) c.write_code.ensures

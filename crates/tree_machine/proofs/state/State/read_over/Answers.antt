@@ -15,8 +15,7 @@ overflow_add-held g c =
       steps = c.in-Some.steps;
       astray = c.read_body-read.new.astray;
     })
-    c.read_body-read.new.threads c.args.bytes.now c.in-Some.rest.now c.in-Some.count c.in-Some-2.read.behind
-    c.in-Some-2.read.end c.in-Some-2.read.front
+    c.in-Some-2.read.front
     (c.from_vec.ensures
     ∙ given_back _ c.make_count.new.threads.items c.make_count.new.threads.len
     (c.read_body-read.ensures.length ∙ c.as_mut_slice-lent.ensures.len))
@@ -28,8 +27,7 @@ overflow_add-held g c =
 
 pub returns-in-Some-2 : goal.returns-in-Some-2
 returns-in-Some-2 g c =
-    offsets_read g.M.Encode.front_code g.M.Encode.behind_code _ c.read_body-read.new.threads c.args.bytes.now
-    c.in-Some.rest.now c.in-Some.count c.in-Some-2.read.behind c.in-Some-2.read.end c.in-Some-2.read.front
+    offsets_read g.M.Encode.front_code g.M.Encode.behind_code _ c.in-Some-2.read.front
     (c.from_vec.ensures
     ∙ given_back _ c.make_count.new.threads.items c.make_count.new.threads.len
     (c.read_body-read.ensures.length ∙ c.as_mut_slice-lent.ensures.len))
