@@ -1,14 +1,14 @@
 -- An order that a state lends to a step that ended no operation.
 use Rattle.std.proofs.Common.{◌≡◌, ℕ, zero, suc, ◌+◌, ◌<◌, ◌≢◌, Bool, true, false, cond, Option, Some}
-use Rattle.std.proofs.Common.{None, IsSome, List, [], ◌∷◌, ◌++◌, length, map, refl, sym, ap, ◌∙◌, arith, slice_get}
-use Rattle.std.proofs.Common.{slice_set, get_or, subst, append-nil, ap₂, ◌==◌, ◌&&◌, eqb-true, eq-eqb}
-use Rattle.std.specs.Prelude.{IfSome, IsSomeAnd, option_and_then, slice_index}
+use Rattle.std.proofs.Common.{None, IsSome, List, [], ◌∷◌, ◌++◌, length, refl, sym, ap, ◌∙◌, arith, slice_get}
+use Rattle.std.proofs.Common.{slice_set, get_or, subst, append-nil, ap₂, ◌==◌, eqb-true, eq-eqb}
+use Rattle.std.specs.Prelude.{IfSome, option_and_then}
 use Rattle.std.specs.Option.{option_or}
 use Rattle.std.proofs.lemmas.Option.{get_or_from_slice_get, slice_get_within}
 use Rattle.std.proofs.lemmas.Bool.{true≢false, false_from_ne_true}
 use Rattle.sched_program.specs.Program.{Program, op_at}
 use Rattle.sched_program.specs.Name.{same_name, value_at}
-use Rattle.sched_program.specs.History.{History, IsBegun, reply}
+use Rattle.sched_program.specs.History.{History, reply}
 use Rattle.sched_program.specs.declared.operation.OpId.{OpId}
 use Rattle.lin.specs.Keys.{Keys, keys_of, keys_after, reply_on}
 use Rattle.lin.specs.Linearization.{IsLinearization, GivesReplies}
@@ -20,7 +20,11 @@ use Rattle.tree_machine.specs.declared.machine.Outcome.{Outcome}
 use Rattle.tree_machine.specs.declared.machine.Outcome.TheVariants.{Goes, Replies, Astray}
 use Rattle.tree_machine.specs.declared.state.Thread.{Thread}
 use Rattle.tree_machine.specs.declared.state.State.{State}
-use Rattle.tree_machine.proofs.Lists.{get-append_left, map-get}
+use Rattle.tree_machine.proofs.Lists.{get-append_left, get-set_same, map-get}
+use Rattle.tree_machine.specs.Alike.{notes_of, replies_of}
+use Rattle.std.specs.Option.{option_to_list}
+use Rattle.std.proofs.lemmas.List.{map-set}
+use Rattle.std.proofs.Math.Seq.{map-set_same}
 use Rattle.tree_machine.proofs.States.{step_parts}
 
 -- ---- values beside names
@@ -50,16 +54,16 @@ module _ {V : Type 0} where
   named_apart t i [] u j apart = refl
   named_apart t i (x ∷ xs) u j apart =
       let other : (t == u) ≡ false = false_from_ne_true (t == u) (λ e. apart (sym (eqb-true t u e))) in
-      ap (λ b. cond (b && i == j) (Some x) (value_at (named t (i + 1) xs) (name u j))) other
-      ∙ named_apart t (i + 1) xs u j apart
+      rw other (named_apart t (i + 1) xs u j apart)
 
   all_apart : (t : ℕ) (all : List (List V)) (u j : ℕ) → u < t → value_at (all_named t all) (name u j) ≡ None
   all_apart t [] u j below = refl
   all_apart t (xs ∷ all) u j below =
-      value_at-append (named t 0 xs) (all_named (t + 1) all) (name u j)
-      ∙ ap (λ o. option_or o (value_at (all_named (t + 1) all) (name u j)))
-      (named_apart t 0 xs u j (λ (e : u ≡ t). omega arith))
-      ∙ all_apart (t + 1) all u j (omega arith)
+      rw (
+        value_at-append (named t 0 xs) (all_named (t + 1) all) (name u j),
+        named_apart t 0 xs u j (λ (e : u ≡ t). omega arith),
+      )
+      (all_apart (t + 1) all u j (omega arith))
 
   -- the value beside a name is that of its thread's list at its index
   value_named : (t i k j : ℕ) (xs : List V) → j ≡ i + k → value_at (named t i xs) (name t j) ≡ slice_get xs k
@@ -109,26 +113,15 @@ module _ {V : Type 0} where
       value_from_start a.thread a.index (slice_set all u (xs ++ more))
       ∙ grown_stated all u a.thread a.index xs more v at (sym (value_from_start a.thread a.index all) ∙ h)
 
-pub map-set : {X Y : Type 0} (f : X → Y) (xs : List X) (i : ℕ) (x : X)
-    → map f (slice_set xs i x) ≡ slice_set (map f xs) i (f x)
-map-set f [] i x = refl
-map-set f (y ∷ xs) zero x = refl
-map-set f (y ∷ xs) (suc i) x = ap (λ zs. f y ∷ zs) (map-set f xs i x)
+-- the value that is appended, or none, stands behind the others
+pub pushed_there : {X : Type 0} (xs : List X) (o : Option X) → slice_get (xs ++ option_to_list o) (length xs) ≡ o
+pushed_there [] None = refl
+pushed_there [] (Some x) = refl
+pushed_there (y ∷ xs) o = pushed_there xs o
 
-set_same : {X : Type 0} (xs : List X) (i : ℕ) (x : X) → slice_get xs i ≡ Some x → slice_set xs i x ≡ xs
-set_same [] i x h = refl
-set_same (y ∷ xs) zero x h = let e : y ≡ x = cc in ap (λ z. z ∷ xs) (sym e)
-set_same (y ∷ xs) (suc i) x h = ap (λ zs. y ∷ zs) (set_same xs i x h)
-
-pub get_set : {X : Type 0} (xs : List X) (i : ℕ) (x y : X) → slice_get xs i ≡ Some y
-    → slice_get (slice_set xs i x) i ≡ Some x
-get_set [] i x y h = absurd (let q : None ≡ Some y = h in cc)
-get_set (z ∷ xs) zero x y h = refl
-get_set (z ∷ xs) (suc i) x y h = get_set xs i x y h
-
-pub pushed_there : {X : Type 0} (xs : List X) (x : X) → slice_get (xs ++ x ∷ []) (length xs) ≡ Some x
-pushed_there [] x = refl
-pushed_there (y ∷ xs) x = pushed_there xs x
+some_value : {X : Type 0} (o : Option X) → IsSome o → (x : X) × (o ≡ Some x)
+some_value None h = absurd (true≢false (sym h))
+some_value (Some x) h = (x, refl)
 
 -- ---- a linearization of one history is one of another, with the same replies, that knows what the first knows of what
 -- began
@@ -147,94 +140,101 @@ module _ (program : Program) (old new : History) (finished : new.finished ≡ ol
       some.0 some.1
       (rw finished some.2.0, gives_still (keys_after some.0 keys) rest some.2.1)
 
-  begun_value : (a : OpId) → IsBegun old a → (note : List ℕ) × (value_at old.begun a ≡ Some note)
-  begun_value a h = by (value_at old.begun a) refl h
-    where
-      by : (o : Option (List ℕ)) → value_at old.begun a ≡ o → IsSome o
-          → (note : List ℕ) × (value_at old.begun a ≡ Some note)
-      by None e h = absurd (true≢false (sym h))
-      by (Some note) e h = (note, e)
-
   pub lends : (order : List OpId) → IsLinearization program old order → IsLinearization program new order
   lends order is = record {
-    begun = (λ k d less. let b = begun_value (get_or order k d) (is.begun k d less) in
-        rw (begun (get_or order k d) b.0 b.1) refl);
+    begun = (λ k d less. let b = some_value _ (is.begun k d less) in rw (begun (get_or order k d) b.0 b.1) refl);
     distinct = is.distinct;
     complete = (λ a h. is.complete a (rw (← finished) h));
     in_time = (λ i j a b at_i at_j before.
-        let less : j < length order = slice_get_within order j b at_j in
-        let same : get_or order j b ≡ b = get_or_from_slice_get order j b b at_j in
-        let note = begun_value b (subst (λ x. IsBegun old x) same (is.begun j b less)) in
-        is.in_time i j a b at_i at_j
-        (subst (λ o. IsSomeAnd o (λ ns. a.index < slice_index ns a.thread)) (begun b note.0 note.1 ∙ sym note.1)
-        before));
+        let began = rw (get_or_from_slice_get order j b b at_j) at (is.begun j b (slice_get_within order j b at_j)) in
+        let note = some_value _ began in
+        is.in_time i j a b at_i at_j (rw (begun b note.0 note.1 ∙ sym note.1) at before));
     replies = gives_still (keys_of program.initial) order is.replies;
   }
 
--- ---- a step that ended no operation
--- thread t has become this one, with its replies as they were, and no note fewer
-record HasGone {Place : Type 0} (old : List (Thread Place)) (t : ℕ) (thread : Thread Place)
+-- ---- a step
+-- thread t has become this one, with what it replied, and no note fewer
+pub record HasGone {Place : Type 0} (old : List (Thread Place)) (t : ℕ) (thread : Thread Place)
     (new : List (Thread Place)) : Type 0 where
-  now : Thread Place
-  threads : new ≡ slice_set old t now
-  replies : now.replies ≡ thread.replies
-  more : List (List ℕ)
-  notes : now.notes ≡ thread.notes ++ more
+  pub now : Thread Place
+  pub threads : new ≡ slice_set old t now
+  pub said : Option Bool
+  pub replies : now.replies ≡ thread.replies ++ option_to_list said
+  pub place : IsSome said → now.place ≡ None
+  pub more : List (List ℕ)
+  pub notes : now.notes ≡ thread.notes ++ more
 
-module _ {Machine Memory Place Form : Type 0} (state : State Machine Memory Place Form) (t : ℕ)
-    (thread begun : Thread Place) (there : slice_get state.threads t ≡ Some thread)
-    (replies : begun.replies ≡ thread.replies) (more : List (List ℕ)) (notes : begun.notes ≡ thread.notes ++ more) where
-  has_gone : (acted : Memory × Outcome Place)
-      → ((b : Thread Place) → slice_get (after_access state t begun acted).threads t ≡ Some b
-      → slice_get b.replies (length thread.replies) ≡ None)
-      → HasGone state.threads t thread (after_access state t begun acted).threads
-  has_gone (memory, Goes place) none =
-      record {
-        now = record begun { place = Some place };
-        threads = refl;
-        replies = replies;
-        more = more;
-        notes = notes;
-      }
-  has_gone (memory, Replies reply) none =
-      let now : Thread Place = record begun { replies = begun.replies ++ reply ∷ []; place = None } in
-      absurd (let q : Some reply ≡ None = sym (pushed_there begun.replies reply)
-      ∙ ap (λ n. slice_get (begun.replies ++ reply ∷ []) n) (ap length replies)
-      ∙ none now (get_set state.threads t now thread there) in cc)
-  has_gone (memory, Astray) none =
-      record { now = begun; threads = refl; replies = replies; more = more; notes = notes }
-
-pub more_notes : {Place : Type 0} (place : Option Place) (notes : List (List ℕ)) (counts : List ℕ)
+more_notes : {Place : Type 0} (place : Option Place) (notes : List (List ℕ)) (counts : List ℕ)
     → (more : List (List ℕ)) × (notes_at_step place notes counts ≡ notes ++ more)
 more_notes (Some place) notes counts = ([], sym (append-nil notes))
 more_notes None notes counts = (counts ∷ [], refl)
 
-module _ {Machine Memory Place Form : Type 0} (program : Program) (state next : State Machine Memory Place Form) (t : ℕ)
-    (thread : Thread Place)
-    (there : slice_get state.threads t ≡ Some thread) (gone : HasGone state.threads t thread next.threads) where
-  gone_lends : (order : List OpId) → IsLinearization program (history_of state) order
-      → IsLinearization program (history_of next) order
-  gone_lends order is =
-      lends program (history_of state) (history_of next)
-      (ap (all_named 0)
-      (ap (map (λ (x : Thread Place). x.replies)) gone.threads
-      ∙ map-set (λ (x : Thread Place). x.replies) state.threads t gone.now
-      ∙ ap (slice_set (map (λ (x : Thread Place). x.replies) state.threads) t) gone.replies
-      ∙ set_same (map (λ (x : Thread Place). x.replies) state.threads) t thread.replies
-      (map-get (λ (x : Thread Place). x.replies) state.threads t thread there)))
-      (λ a note h.
-      let grown : value_at
-      (all_named 0 (slice_set (map (λ (x : Thread Place). x.notes) state.threads) t (thread.notes ++ gone.more))) a
-      ≡ Some note =
-      grown_value (map (λ (x : Thread Place). x.notes) state.threads) t thread.notes gone.more a note
-      (map-get (λ (x : Thread Place). x.notes) state.threads t thread there) h in
-      let is_now : map (λ (x : Thread Place). x.notes) next.threads
-      ≡ slice_set (map (λ (x : Thread Place). x.notes) state.threads) t (thread.notes ++ gone.more) =
-      ap (map (λ (x : Thread Place). x.notes)) gone.threads
-      ∙ map-set (λ (x : Thread Place). x.notes) state.threads t gone.now
-      ∙ ap (slice_set (map (λ (x : Thread Place). x.notes) state.threads) t) gone.notes in
-      ap (λ (all : List (List (List ℕ))). value_at (all_named 0 all) a) is_now ∙ grown)
-      order is
+module _ {Machine Memory Place Form : Type 0} (state : State Machine Memory Place Form) (t : ℕ)
+    (thread begun : Thread Place) (replies : begun.replies ≡ thread.replies)
+    (noted : (more : List (List ℕ)) × (begun.notes ≡ thread.notes ++ more)) where
+  gone_to : (now : Thread Place) (said : Option Bool) → now.replies ≡ begun.replies ++ option_to_list said
+      → now.notes ≡ begun.notes → (IsSome said → now.place ≡ None)
+      → HasGone state.threads t thread (slice_set state.threads t now)
+  gone_to now said longer same place = record {
+    now = now;
+    threads = refl;
+    said = said;
+    replies = rw (← replies) longer;
+    place = place;
+    more = noted.0;
+    notes = same ∙ noted.1;
+  }
+
+  has_gone : (acted : Memory × Outcome Place)
+      → HasGone state.threads t thread (after_access state t begun acted).threads
+  has_gone (memory, Goes place) =
+      gone_to (record begun { place = Some place }) None (sym (append-nil begun.replies)) refl
+      (λ some. absurd (true≢false (sym some)))
+  has_gone (memory, Replies reply) =
+      gone_to (record begun { replies = begun.replies ++ reply ∷ []; place = None }) (Some reply) refl refl (λ _. refl)
+  has_gone (memory, Astray) =
+      gone_to begun None (sym (append-nil begun.replies)) refl (λ some. absurd (true≢false (sym some)))
+
+-- what a step makes of its thread
+pub step_gone : {Machine Memory Place Form : Type 0} (rules : Rules Memory Place) (program : Program)
+    (state next : State Machine Memory Place Form) (t : ℕ) → step rules program state t ≡ Some next
+    → (thread : Thread Place) × (slice_get state.threads t ≡ Some thread)
+    × HasGone state.threads t thread next.threads
+step_gone rules program state next t leads =
+    step_parts rules program _ state next t leads (λ thread there op op_is made. (
+      thread,
+      there,
+      rw made (has_gone state t thread (at_step rules state op thread) refl
+          (more_notes thread.place thread.notes (finished_counts state.threads))
+          (rules.act op (place_or thread.place (rules.first op)) state.memory)),
+    ))
+
+module _ {Place : Type 0} (old new : List (Thread Place)) (t : ℕ) (thread : Thread Place)
+    (there : slice_get old t ≡ Some thread) (gone : HasGone old t thread new) where
+  -- what stands at the thread afterwards
+  pub now_there : slice_get new t ≡ Some gone.now
+  now_there = rw gone.threads (get-set_same old t gone.now (slice_get_within old t thread there))
+
+  -- what the thread now has behind its replies
+  pub stated : slice_get gone.now.replies (length thread.replies) ≡ gone.said
+  stated = rw gone.replies (pushed_there thread.replies gone.said)
+
+  -- the replies have grown by what it said
+  pub replies_now : replies_of new ≡ slice_set (replies_of old) t (thread.replies ++ option_to_list gone.said)
+  replies_now = rw (gone.threads, map-set (λ (x : Thread Place). x.replies) old t gone.now, gone.replies) refl
+
+  same_replies : gone.said ≡ None → replies_of new ≡ replies_of old
+  same_replies none =
+      rw gone.threads (map-set_same (λ (x : Thread Place). x.replies) old t gone.now thread
+      (rw (get_or_from_slice_get old t thread thread there, gone.replies, none) (append-nil thread.replies)))
+
+  -- what was noted is noted still
+  pub notes_still : (a : OpId) (note : List ℕ) → value_at (all_named 0 (notes_of old)) a ≡ Some note
+      → value_at (all_named 0 (notes_of new)) a ≡ Some note
+  notes_still a note h =
+      rw (gone.threads, map-set (λ (x : Thread Place). x.notes) old t gone.now, gone.notes)
+      (grown_value (notes_of old) t thread.notes gone.more a note
+      (map-get (λ (x : Thread Place). x.notes) old t thread there) h)
 
 -- a linearization before a step that ended no operation is one after it
 pub step_silent : {Machine Memory Place Form : Type 0} (rules : Rules Memory Place) (program : Program)
@@ -243,13 +243,10 @@ pub step_silent : {Machine Memory Place Form : Type 0} (rules : Rules Memory Pla
     → slice_get b.replies (length a.replies) ≡ None)
     → (order : List OpId) → IsLinearization program (history_of state) order
     → IsLinearization program (history_of next) order
-step_silent {Machine} {Memory} {Place} {Form} rules program state next t leads none order is =
-    step_parts rules program (IsLinearization program (history_of next) order) state next t leads
-    (λ thread there op op_is made.
-    let more = more_notes thread.place thread.notes (finished_counts state.threads) in
-    gone_lends program state next t thread there
-    (subst (λ (s : State Machine Memory Place Form). HasGone state.threads t thread s.threads) (sym made)
-    (has_gone state t thread (at_step rules state op thread) there refl more.0 more.1
-    (rules.act op (place_or thread.place (rules.first op)) state.memory)
-    (λ b at. none thread b there (ap (λ (s : State Machine Memory Place Form). slice_get s.threads t) made ∙ at))))
-    order is)
+step_silent rules program state next t leads none =
+    let s = step_gone rules program state next t leads in
+    let now = now_there state.threads next.threads t s.0 s.1 s.2 in
+    let silent = sym (stated state.threads next.threads t s.0 s.1 s.2) ∙ none s.0 s.2.now s.1 now in
+    lends program (history_of state) (history_of next)
+    (ap (all_named 0) (same_replies state.threads next.threads t s.0 s.1 s.2 silent))
+    (notes_still state.threads next.threads t s.0 s.1 s.2)

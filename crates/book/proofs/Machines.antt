@@ -1,5 +1,5 @@
 -- States of a machine that runs a program are known by their labels.
-use Rattle.std.proofs.Common.{◌≡◌, ℕ, ◌≤◌, true, Option, Some, None, List, [], ◌∷◌, ◌++◌, refl, ap, ◌∙◌, subst}
+use Rattle.std.proofs.Common.{◌≡◌, ℕ, ◌≤◌, true, Option, Some, None, List, [], ◌∷◌, ◌++◌, refl, ◌∙◌, subst}
 use Rattle.std.specs.Cmp.{IsEquivalence}
 use Rattle.std.specs.Cmp.Lexicographic.{lists_equiv}
 use Rattle.std.proofs.lemmas.List.{append_cancel_left}
@@ -13,8 +13,7 @@ use Rattle.tree_machine.specs.Laws.CellOrder.{nat_equivalence}
 use Rattle.tree_machine.specs.Laws.FormCode.{content_readable}
 use Rattle.tree_machine.specs.Step.{start, step, Fits}
 use Rattle.tree_machine.specs.declared.state.State.{State}
-use Rattle.tree_machine.proofs.Alike.{alike_step}
-use Rattle.tree_machine.proofs.Forms.{forms_alike, alike_turned}
+use Rattle.tree_machine.proofs.Forms.{forms_alike}
 use Rattle.replay.specs.Laws.Machines.{is_machine}
 use Rattle.options.specs.declared.options.Merge.{Merge}
 use Rattle.options.specs.declared.options.Merge.TheVariants.{Exact, Names}
@@ -27,7 +26,7 @@ use Rattle.book.specs.Labels.{label_by, same_as, same_label}
 use Rattle.book.specs.Books.{CountsAsOne, IsBook}
 use Rattle.book.proofs.Agreeing.{Agree}
 use Rattle.book.proofs.LawfulBooks.{opened_book}
-use Rattle.book.proofs.StandingIn.{found_alike}
+use Rattle.book.proofs.StandingIn.{one_found, one_step, one_turned}
 
 module _ {Machine Memory Place Form : Type 0} (rules : Rules Memory Place) (program : Program)
     (lawful : AreLawful rules)
@@ -63,8 +62,7 @@ module _ {Machine Memory Place Form : Type 0} (rules : Rules Memory Place) (prog
       (CountsAsOne {Machine = Machine} {Form = Form} rules merge)
   counts_by Exact r s r_fits s_fits = (
     λ same. wholly r s (equal_labels Exact r s same),
-    λ e. subst (λ (v : State Machine Memory Place Form). same_as (label Exact) r v ≡ true) e
-        (labels.refl (label Exact r)),
+    λ e. rw (← e) (labels.refl (label Exact r)),
   )
   counts_by Names r s r_fits s_fits =
       let alike = forms_alike rules form_of forms program program r s r_fits s_fits in (
@@ -79,22 +77,13 @@ module _ {Machine Memory Place Form : Type 0} (rules : Rules Memory Place) (prog
       → step rules program s t ≡ Some u
       → (v : State Machine Memory Place Form) × (step rules program r t ≡ Some v)
       × (same_as (label merge) v u ≡ true)
-  steps_by Exact machine r s u t r_fits s_fits same leads =
-      let e : r ≡ s = (counts_by Exact r s r_fits s_fits).0 same in (
-        u,
-        ap (λ (v : State Machine Memory Place Form). step rules program v t) e ∙ leads,
-        labels.refl (label Exact u),
-      )
-  steps_by Names machine r s u t r_fits s_fits same leads =
-      let are = (counts_by Names r s r_fits s_fits).0 same in
-      let alike = alike_turned rules form_of forms program r s r_fits s_fits are in
-      let v = alike_step rules s r lawful alike program t u leads in
+  steps_by merge machine r s u t r_fits s_fits same leads =
+      let turned = one_turned rules program form_of lawful forms merge in
+      let one = turned r s r_fits s_fits ((counts_by merge r s r_fits s_fits).0 same) in
+      let v = one_step rules program form_of lawful forms merge s r u t one leads in
       let u_fits = machine.step_fits s u t s_fits leads in
-      let v_fits = machine.step_fits r v.0 t r_fits v.1 in (
-        v.0,
-        v.1,
-        (counts_by Names v.0 u v_fits u_fits).1 (alike_turned rules form_of forms program u v.0 u_fits v_fits v.2),
-      )
+      let v_fits = machine.step_fits r v.0 t r_fits v.1 in
+      (v.0, v.1, (counts_by merge v.0 u v_fits u_fits).1 (turned u v.0 u_fits v_fits v.2))
 
   pub merges_by : (merge : Merge) → IsMachine machine_here → Merges machine_here (same_as (label merge))
   merges_by merge machine = record {
@@ -107,11 +96,9 @@ module _ {Machine Memory Place Form : Type 0} (rules : Rules Memory Place) (prog
   -- states with the same label have the same findings
   pub findings_alike : (merge : Merge)
       → FindsAlike machine_here (AreOneBy (same_as (label merge))) (IsFindingOf rules program)
-  findings_alike Exact r s r_fits s_fits same finding is =
-      subst (λ v. IsFindingOf rules program v finding) ((counts_by Exact r s r_fits s_fits).0 same) is
-  findings_alike Names r s r_fits s_fits same finding is =
-      found_alike rules program form_of lawful forms r s r_fits s_fits ((counts_by Names r s r_fits s_fits).0 same)
-      finding is
+  findings_alike merge r s r_fits s_fits same finding is =
+      one_found rules program form_of lawful forms merge r s r_fits s_fits
+      ((counts_by merge r s r_fits s_fits).0 same) finding is
 
 -- the book with the start alone
 pub first_book : {Machine Memory Place Form : Type 0} (rules : Machine → Rules Memory Place)

@@ -23,9 +23,7 @@ expanded_by Taken h = absurd (true≢false (sym h))
 expanded_by Expanded h = refl
 
 pub left_by : (k : Mark) → is_expanded k ≡ false → k ≢ Expanded
-left_by Open h = λ e. cc
-left_by Taken h = λ e. cc
-left_by Expanded h = absurd (true≢false h)
+left_by k h = λ e. true≢false (rw e at h)
 
 pub expanded_from : (k : Mark) → not (is_expanded k) ≡ false → k ≡ Expanded
 expanded_from Open h = absurd (true≢false h)
@@ -33,9 +31,7 @@ expanded_from Taken h = absurd (true≢false h)
 expanded_from Expanded h = refl
 
 pub not_expanded_from : (k : Mark) → not (is_expanded k) ≡ true → k ≢ Expanded
-not_expanded_from Open h = λ e. cc
-not_expanded_from Taken h = λ e. cc
-not_expanded_from Expanded h = absurd (true≢false (sym h))
+not_expanded_from k h = λ e. true≢false (sym (rw e at h))
 
 -- what is neither expanded nor taken is open
 pub open_between : (k : Mark) → k ≢ Expanded → k ≢ Taken → k ≡ Open

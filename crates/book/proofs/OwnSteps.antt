@@ -7,12 +7,11 @@ use Rattle.tree_machine.specs.Step.{Fits}
 use Rattle.tree_machine.specs.declared.state.State.{State}
 use Rattle.book.specs.declared.book.Entered.{Entered}
 use Rattle.book.specs.declared.book.EnterFault.{EnterFault}
-use Rattle.book.specs.declared.book.EnterFault.TheVariants.{NotTaken, Stranger, Full, OutOfMemory}
+use Rattle.book.specs.declared.book.EnterFault.TheVariants.{Full, OutOfMemory}
 use Rattle.replay.specs.declared.finding.Finding.{Finding}
 use Rattle.book.specs.Books.{machine_in, right_in, CountsAsOne, HoldsSteps}
 use Rattle.book.specs.ByLabel.{expansion_of, AreStepsOf, ExpandedView, IsEntryOf, IsExpandedOf, RefusesEntry}
 use Rattle.book.specs.Entries.{At, Contents, Enters, Entry, IsFullFor, IsOwn, IsTaken, Refuses, Steps, Successor}
-use Rattle.replay.specs.Findings.{machine_of}
 use Rattle.book.specs.Labels.{label_by, labelled, steps_of}
 use Rattle.book.specs.Law.{IsExpansion}
 use Rattle.replay.specs.Schedule.{StepMachine}
@@ -38,6 +37,14 @@ are_steps {S} m right label_of s ys expansion =
       labels = ap (map (labelled label_of)) (sym back);
     }
 
+-- a refusal for memory, or for room that the steps need, is one of what the steps are of
+refused_by : {Needs : Type 0} (Refused : EnterFault → Type 0) (answer : Result Entered EnterFault)
+    → IfErr answer (λ fault. (fault ≡ OutOfMemory) ⊎ ((fault ≡ Full) × Needs)) → Refused OutOfMemory
+    → (Needs → Refused Full) → IfErr answer Refused
+refused_by Refused (Ok r) h memory full = tt
+refused_by Refused (Err fault) (inl is) memory full = rw is memory
+refused_by Refused (Err fault) (inr h) memory full = rw h.0 (full h.1)
+
 module _ {Machine Memory Place Form : Type 0} (rules : Machine → Rules Memory Place)
     (own_code : Memory → List (Option Place) → List ℕ) (form_code : Form → List ℕ)
     (form_of : Machine → Memory → List (Option Place) → Form)
@@ -45,6 +52,31 @@ module _ {Machine Memory Place Form : Type 0} (rules : Machine → Rules Memory 
     (e : Entry (State Machine Memory Place Form)) (at : At b.entries i e) where
   abbrev label_here : State Machine Memory Place Form → List ℕ
   label_here = label_by own_code form_code (form_of b.machine) b.merge
+
+  -- the steps of an entry in the book that have these labels
+  abbrev put_by : List (Successor (List ℕ)) → Entry (State Machine Memory Place Form)
+      → Steps Machine (State Machine Memory Place Form)
+  put_by steps d = record {
+    machine = b.machine;
+    program = b.program;
+    source = d.state;
+    successors = steps_of (machine_in rules b).step d.state steps;
+  }
+
+  abbrev EntersHere : Contents Machine (State Machine Memory Place Form) → ℕ
+      → Steps Machine (State Machine Memory Place Form) → Entered → Type 0
+  EntersHere new id x r = Enters (CountsAsOne (rules b.machine) b.merge) b new id x r.entered r.met
+
+  -- what putting the steps in says of an answer
+  abbrev PutIn : List (Successor (List ℕ)) → Contents Machine (State Machine Memory Place Form)
+      → Result Entered EnterFault → Type 0
+  PutIn steps new answer = IfOk answer (λ r. (d : Entry (State Machine Memory Place Form)) → At b.entries i d
+      → EntersHere new i (put_by steps d) r)
+
+  abbrev NotPutIn : List (Successor (List ℕ)) → Result Entered EnterFault → Type 0
+  NotPutIn steps answer = IfErr answer (λ fault. (fault ≡ OutOfMemory)
+      ⊎ ((fault ≡ Full) × ((d : Entry (State Machine Memory Place Form)) → At b.entries i d
+      → IsFullFor (CountsAsOne (rules b.machine) b.merge) b (put_by steps d).successors)))
 
   -- an expansion of the entry's state, labelled for the book
   module _ (x : Steps Machine (State Machine Memory Place Form)) (own : IsOwn b i x.machine x.program x.source)
@@ -57,60 +89,25 @@ module _ {Machine Memory Place Form : Type 0} (rules : Machine → Rules Memory 
     labelled_here = rw (← own.machine) are
 
     pub own_steps : AreStepsOf (machine_in rules b) (right_in rules b) label_here e.state steps
-    own_steps =
-        rw labelled_here
-        (are_steps (machine_in rules b) (right_in rules b) label_here e.state x.successors expansion_here)
+    own_steps = rw labelled_here (are_steps _ (right_in rules b) label_here e.state x.successors expansion_here)
 
     own_successors : steps_of (machine_in rules b).step e.state steps ≡ x.successors
-    own_successors =
-        rw labelled_here
+    own_successors = rw labelled_here
         (steps_back (machine_in rules b).step e.state label_here x.successors expansion_here.steps)
 
     -- what putting them in answers is what entering the expansion does
     pub entered_own : (new : Contents Machine (State Machine Memory Place Form)) (answer : Result Entered EnterFault)
-        → IfOk answer (λ r. (d : Entry (State Machine Memory Place Form)) → At b.entries i d
-        → Enters (CountsAsOne (rules b.machine) b.merge) b new i (record {
-          machine = b.machine;
-          program = b.program;
-          source = d.state;
-          successors = steps_of (machine_in rules b).step d.state steps;
-        }) r.entered r.met)
-        → IfOk answer (λ r. Enters (CountsAsOne (rules b.machine) b.merge) b new i x r.entered r.met)
+        → PutIn steps new answer → IfOk answer (EntersHere new i x)
     entered_own new (Err fault) h = tt
     entered_own new (Ok r) h =
-        let is : record {
-          machine = b.machine;
-          program = b.program;
-          source = e.state;
-          successors = steps_of (machine_in rules b).step e.state steps;
-        } ≡ x =
-        λ j. record {
-          machine = sym own.machine j;
-          program = sym own.program j;
-          source = sym (own.source e at) j;
-          successors = own_successors j;
-        } in
-        subst (λ (y : Steps Machine (State Machine Memory Place Form)).
-        Enters (CountsAsOne (rules b.machine) b.merge) b new i y r.entered r.met) is (h e at)
+        let is : put_by steps e ≡ x = rw (own_successors, ← own.machine, ← own.program, ← own.source e at) refl in
+        subst (λ y. EntersHere new i y r) is (h e at)
 
-    pub refused_own : IsTaken b.entries i → (answer : Result Entered EnterFault)
-        → IfErr answer (λ fault. (fault ≡ OutOfMemory)
-        ⊎ ((fault ≡ Full) × ((d : Entry (State Machine Memory Place Form)) → At b.entries i d
-        → IsFullFor (CountsAsOne (rules b.machine) b.merge) b (steps_of (machine_in rules b).step d.state steps))))
+    pub refused_own : IsTaken b.entries i → (answer : Result Entered EnterFault) → NotPutIn steps answer
         → IfErr answer (Refuses (CountsAsOne (rules b.machine) b.merge) b i x)
-    refused_own taken (Ok r) h = tt
-    refused_own taken (Err NotTaken) (inl h) = absurd (cc)
-    refused_own taken (Err NotTaken) (inr h) = absurd (let q : NotTaken ≡ Full = h.0 in cc)
-    refused_own taken (Err Stranger) (inl h) = absurd (cc)
-    refused_own taken (Err Stranger) (inr h) = absurd (let q : Stranger ≡ Full = h.0 in cc)
-    refused_own taken (Err Full) (inl h) = absurd (cc)
-    refused_own taken (Err Full) (inr h) = (
-      taken,
-      own,
-      subst (λ (ys : List (Successor (State Machine Memory Place Form))).
-          IsFullFor (CountsAsOne (rules b.machine) b.merge) b ys) own_successors (h.1 e at),
-    )
-    refused_own taken (Err OutOfMemory) h = (taken, λ _. own)
+    refused_own taken answer h =
+        refused_by (Refuses (CountsAsOne (rules b.machine) b.merge) b i x) answer h (taken, λ _. own)
+        (λ full. (taken, own, rw own_successors at (full e at)))
 
   -- labelled steps of the entry
   module _ (x : ExpandedView Machine) (key : IsEntryOf label_here b x.key)
@@ -122,55 +119,24 @@ module _ {Machine Memory Place Form : Type 0} (rules : Machine → Rules Memory 
         (expanded e.state (rw (key.machine, key.program) fits)
         (rw (key.machine, key.merge) (key.label e (rw number at))))
 
+    same_expansion : (d : Entry (State Machine Memory Place Form)) → put_by x.steps d ≡ expansion_of rules x d.state
+    same_expansion d = rw (key.machine, key.program) refl
+
     -- what putting them in answers is what entering them does
     pub entered_keyed : (new : Contents Machine (State Machine Memory Place Form)) (answer : Result Entered EnterFault)
-        → IfOk answer (λ r. (d : Entry (State Machine Memory Place Form)) → At b.entries i d
-        → Enters (CountsAsOne (rules b.machine) b.merge) b new i (record {
-          machine = b.machine;
-          program = b.program;
-          source = d.state;
-          successors = steps_of (machine_in rules b).step d.state x.steps;
-        }) r.entered r.met)
+        → PutIn x.steps new answer
         → IfOk answer (λ r. (d : Entry (State Machine Memory Place Form)) × At b.entries x.key.id d
-        × Enters (CountsAsOne (rules b.machine) b.merge) b new x.key.id (expansion_of rules x d.state) r.entered r.met)
+        × EntersHere new x.key.id (expansion_of rules x d.state) r)
     entered_keyed new (Err fault) h = tt
     entered_keyed new (Ok r) h =
-        let is : record {
-          machine = b.machine;
-          program = b.program;
-          source = e.state;
-          successors = steps_of (machine_in rules b).step e.state x.steps;
-        } ≡ expansion_of rules x e.state =
-        λ j. record {
-          machine = sym key.machine j;
-          program = sym key.program j;
-          source = e.state;
-          successors = steps_of (machine_of (rules (sym key.machine j)) (sym key.program j)).step e.state x.steps;
-        } in (
-          e,
-          rw number at,
-          rw number
-              (subst (λ (y : Steps Machine (State Machine Memory Place Form)).
-              Enters (CountsAsOne (rules b.machine) b.merge) b new i y r.entered r.met) is (h e at)),
-        )
+        (e, rw number at, rw number (subst (λ y. EntersHere new i y r) (same_expansion e) (h e at)))
 
-    pub refused_keyed : IsTaken b.entries x.key.id → (answer : Result Entered EnterFault)
-        → IfErr answer (λ fault. (fault ≡ OutOfMemory)
-        ⊎ ((fault ≡ Full) × ((d : Entry (State Machine Memory Place Form)) → At b.entries i d
-        → IsFullFor (CountsAsOne (rules b.machine) b.merge) b (steps_of (machine_in rules b).step d.state x.steps))))
+    pub refused_keyed : IsTaken b.entries x.key.id → (answer : Result Entered EnterFault) → NotPutIn x.steps answer
         → IfErr answer (RefusesEntry rules own_code form_code form_of b x)
-    refused_keyed taken (Ok r) h = tt
-    refused_keyed taken (Err NotTaken) (inl h) = absurd (cc)
-    refused_keyed taken (Err NotTaken) (inr h) = absurd (let q : NotTaken ≡ Full = h.0 in cc)
-    refused_keyed taken (Err Stranger) (inl h) = absurd (cc)
-    refused_keyed taken (Err Stranger) (inr h) = absurd (let q : Stranger ≡ Full = h.0 in cc)
-    refused_keyed taken (Err Full) (inl h) = absurd (cc)
-    refused_keyed taken (Err Full) (inr h) = (
-      taken,
-      key,
-      λ d there. subst (λ (ys : List (Successor (State Machine Memory Place Form))).
-          IsFullFor (CountsAsOne (rules b.machine) b.merge) b ys)
-          (λ j. steps_of (machine_of (rules (sym key.machine j)) (sym key.program j)).step d.state x.steps)
-          (h.1 d (rw number at there)),
-    )
-    refused_keyed taken (Err OutOfMemory) h = (taken, key)
+    refused_keyed taken answer h =
+        refused_by (RefusesEntry rules own_code form_code form_of b x) answer h (taken, key) (λ full. (
+          taken,
+          key,
+          λ d there. subst (λ y. IsFullFor (CountsAsOne (rules b.machine) b.merge) b y.successors) (same_expansion d)
+              (full d (rw number at there)),
+        ))

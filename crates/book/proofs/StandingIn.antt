@@ -1,5 +1,5 @@
 -- States that count as one: they have the same findings and labels, and so have their steps.
-use Rattle.std.proofs.Common.{◌≡◌, ◌<◌, ◌≤◌, ℕ, ◌++◌, ◌∷◌, [], ◌∙◌, IsSome, List, Option, Some, None}
+use Rattle.std.proofs.Common.{◌≡◌, ℕ, ◌++◌, ◌∷◌, [], ◌∙◌, List, Option, Some, None}
 use Rattle.std.proofs.Common.{ap, arith, refl, subst, sym}
 use Rattle.tree_machine.specs.Alike.{AreStatesAlike}
 use Rattle.tree_machine.specs.Flat.{number_code}
@@ -15,7 +15,6 @@ use Rattle.tree_machine.proofs.Forms.{forms_alike, alike_turned, numbers_fit}
 use Rattle.tree_machine.proofs.States.{step_fits}
 use Rattle.sched_program.specs.Program.{Program, IsWithinLimits}
 use Rattle.sched_program.specs.declared.operation.OpId.{OpId}
-use Rattle.lin.specs.Linearization.{IsLinearization, IsLinearizable}
 use Rattle.options.specs.declared.options.Merge.{Merge}
 use Rattle.options.specs.declared.options.Merge.TheVariants.{Exact, Names}
 use Rattle.replay.specs.declared.finding.Finding.{Finding}
@@ -33,10 +32,10 @@ module _ {Machine Memory Place Form : Type 0} (rules : Rules Memory Place) (prog
     (form_of : Memory → List (Option Place) → Form) (lawful : AreLawful rules) (forms : AreFormsExact rules form_of)
   where
     -- what is found of a state is found of one that is alike to it: the same fault, or the same linearization
-    pub found_alike : (r s : State Machine Memory Place Form) → Fits rules program r → Fits rules program s
+    found_alike : (r s : State Machine Memory Place Form) → Fits rules program r → Fits rules program s
         → AreStatesAlike rules r s
         → (finding : Finding) → IsFindingOf rules program r finding → IsFindingOf rules program s finding
-    found_alike r s r_fits s_fits alike found.Astray is = subst (λ a. IsSome a) alike.astray is
+    found_alike r s r_fits s_fits alike found.Astray is = rw (← alike.astray) is
     found_alike r s r_fits s_fits alike found.Order is = (
       sym alike.astray ∙ is.0,
       λ ordered. is.1
@@ -45,30 +44,31 @@ module _ {Machine Memory Place Form : Type 0} (rules : Rules Memory Place) (prog
     found_alike r s r_fits s_fits alike found.History is = (
       sym alike.astray ∙ is.0,
       alike_ordered rules r s lawful alike is.1,
-      subst (λ h. IsLinearizable program h → ⊥) (alike_history rules r s alike) is.2,
+      rw (← alike_history rules r s alike) is.2,
     )
     found_alike r s r_fits s_fits alike (found.Sound order) is = (
       sym alike.astray ∙ is.0,
       alike_ordered rules r s lawful alike is.1,
-      subst (λ h. IsLinearization program h order) (alike_history rules r s alike) is.2,
+      rw (← alike_history rules r s alike) is.2,
     )
 
     pub one_found : (merge : Merge) (r s : State Machine Memory Place Form) → Fits rules program r
         → Fits rules program s → CountsAsOne rules merge r s → (finding : Finding)
         → IsFindingOf rules program r finding → IsFindingOf rules program s finding
-    one_found Exact r s r_fits s_fits one finding is = subst (λ v. IsFindingOf rules program v finding) one is
+    one_found Exact r s r_fits s_fits one finding is = rw (← one) is
     one_found Names r s r_fits s_fits one finding is = found_alike r s r_fits s_fits one finding is
 
-    one_turned : (merge : Merge) (r s : State Machine Memory Place Form) → Fits rules program r → Fits rules program s
-        → CountsAsOne rules merge r s → CountsAsOne rules merge s r
+    -- counting as one goes both ways
+    pub one_turned : (merge : Merge) (r s : State Machine Memory Place Form) → Fits rules program r
+        → Fits rules program s → CountsAsOne rules merge r s → CountsAsOne rules merge s r
     one_turned Exact r s r_fits s_fits one = sym one
     one_turned Names r s r_fits s_fits one = alike_turned rules form_of forms program r s r_fits s_fits one
 
-    one_step : (merge : Merge) (r s u : State Machine Memory Place Form) (t : ℕ) → CountsAsOne rules merge r s
+    -- each step of one is a step of the other, to states that count as one
+    pub one_step : (merge : Merge) (r s u : State Machine Memory Place Form) (t : ℕ) → CountsAsOne rules merge r s
         → step rules program r t ≡ Some u
         → (v : State Machine Memory Place Form) × (step rules program s t ≡ Some v) × CountsAsOne rules merge u v
-    one_step Exact r s u t one leads =
-        (u, subst (λ (w : State Machine Memory Place Form). step rules program w t ≡ Some u) one leads, refl)
+    one_step Exact r s u t one leads = (u, rw one at leads, refl)
     one_step Names r s u t one leads = alike_step rules r s lawful one program t u leads
 
     one_label : (own_code : Memory → List (Option Place) → List ℕ) (form_code : Form → List ℕ) (merge : Merge)
@@ -111,9 +111,7 @@ module _ {Machine Memory Place Form : Type 0} (rules : Rules Memory Place) (prog
           by : (o : Option (State Machine Memory Place Form)) → step rules program s t ≡ o
               → Puts (machine_of rules program) (IsFindingOf rules program) label_of t old new o
           by None is = same
-          by (Some u) is =
-              absurd (let v = one_step merge s c u t one is in
-              let q : None ≡ Some v.0 = sym none ∙ v.1 in cc)
+          by (Some u) is = absurd (let v = one_step merge s c u t one is in cc (none, v.1))
 
 -- what is read from a label counts as one with each state that has it
 pub read_stands : {Machine Memory Place Form : Type 0} (rules : Rules Memory Place) (program : Program)
@@ -124,14 +122,11 @@ pub read_stands : {Machine Memory Place Form : Type 0} (rules : Rules Memory Pla
     → AreStatesAlike rules s c × ((p : Program) → Fits rules p s → Fits rules p c) × (c.steps ≡ 0))
     → (label : List ℕ) → label ≡ code → (merge : Merge) (s : State Machine Memory Place Form) → Fits rules program s
     → label_by own_code form_code form_of merge s ≡ label → StandsIn rules program merge s c
-read_stands {Machine} {Memory} {Place} {Form} rules program own_code form_code form_of code c whole named label
-    written Exact s fits is =
-    let same : s ≡ c = sym (whole s (sym (is ∙ written))) in
-    subst (λ (v : State Machine Memory Place Form). StandsIn rules program Exact s v) same
-    (record { counts = refl; fits = fits; steps = omega arith })
+read_stands rules program own_code form_code form_of code c whole named label written Exact s fits is =
+    rw (whole s (sym (is ∙ written))) (record { counts = refl; fits = fits; steps = omega arith })
 read_stands rules program own_code form_code form_of code c whole named label written Names s fits is =
     let law = named s (numbers_fit rules program s fits) (sym (is ∙ written)) in
-    record { counts = law.0; fits = law.1 program fits; steps = (let none = law.2 in omega (arith, none)) }
+    record { counts = law.0; fits = law.1 program fits; steps = omega (arith, law.2) }
 
 -- what is read from the label of a sound taken entry is the source of the steps of each state with that label
 pub source_of : {Machine Memory Place Form : Type 0} (front_code : Front → Memory → List ℕ)
@@ -148,12 +143,10 @@ source_of front_code behind_code rules own_code form_code form_of taken offsets 
     read =
     let key = taken.key in
     let stands = read.stands key.merge key.program limits of.state of.fits of.label in
-    let fewer : c.steps ≤ of.state.steps = stands.steps in
-    let bounded : of.state.steps < 2000000 = of.bounded in
     record {
       read = read.read;
       fits = stands.fits;
-      steps_fit = omega (arith, fewer, bounded);
+      steps_fit = omega (arith, stands.steps, of.bounded);
       sound = one_found (rules key.machine) key.program (form_of key.machine) lawful forms key.merge of.state c of.fits
           stands.fits stands.counts (found.Sound order)
           (subst (IsFindingOf (rules key.machine) key.program of.state) sound of.finding);

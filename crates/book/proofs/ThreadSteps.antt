@@ -1,7 +1,7 @@
 -- The steps of a state are taken thread by thread.
 use Rattle.std.specs.Prelude.{unwrap_or}
 use Rattle.std.proofs.Common.{◌≡◌, ℕ, zero, suc, ◌+◌, inl, inr, cond, Option, Some, None, is_some, List, [], ◌∷◌, ◌++◌}
-use Rattle.std.proofs.Common.{map, filter, refl, sym, ap, ap₂, ◌∙◌, arith, slice_get, subst, append-nil}
+use Rattle.std.proofs.Common.{map, filter, refl, sym, ap, ◌∙◌, arith, slice_get, subst, append-nil}
 use Rattle.std.specs.List.{range_with_len}
 use Rattle.std.proofs.lemmas.List.{map_push}
 use Rattle.std.proofs.lemmas.List.Elements.{filter-append}
@@ -47,18 +47,13 @@ module _ {S : Type 0} (m : StepMachine S) (right : S → Finding → Type 0) (s 
       ≡ filter (λ t. is_some (m.step s t)) (range_with_len 0 n) ++ cond (is_some (m.step s n)) (n ∷ []) []
   filter_more n =
       let e : 0 + n ≡ n = omega arith in
-      ap (filter (λ t. is_some (m.step s t))) (range-more 0 n ∙ ap (λ k. range_with_len 0 n ++ k ∷ []) e)
-      ∙ filter-append (λ t. is_some (m.step s t)) (range_with_len 0 n) (n ∷ [])
+      rw (range-more 0 n, e) (filter-append (λ t. is_some (m.step s t)) (range_with_len 0 n) (n ∷ []))
 
   -- a thread that is not enabled adds none
   front_same : (n : ℕ) (xs : List (Successor S)) → IsFront m right s n xs → m.step s n ≡ None
       → IsFront m right s (n + 1) xs
   front_same n xs front none = record {
-    threads =
-        front.threads
-        ∙ sym (filter_more n
-        ∙ ap (λ o. filter (λ t. is_some (m.step s t)) (range_with_len 0 n) ++ cond (is_some o) (n ∷ []) []) none
-        ∙ append-nil _);
+    threads = rw (filter_more n, none, append-nil) front.threads;
     steps = front.steps;
     findings = front.findings;
     fit = front.fit;
@@ -70,10 +65,7 @@ module _ {S : Type 0} (m : StepMachine S) (right : S → Finding → Type 0) (s 
       → IsFront m right s (n + 1) ys
   front_more n xs ys x front is_thread leads is fits pushed = rw pushed (record {
     threads =
-        map_push (λ (y : Successor S). y.thread) xs x
-        ∙ ap₂ (λ (us : List ℕ) (t : ℕ). us ++ t ∷ []) front.threads is_thread
-        ∙ sym (filter_more n
-        ∙ ap (λ o. filter (λ t. is_some (m.step s t)) (range_with_len 0 n) ++ cond (is_some o) (n ∷ []) []) leads);
+        rw (map_push (λ (y : Successor S). y.thread) xs x, filter_more n, leads, front.threads, is_thread) refl;
     steps = each (λ y. m.step s y.thread ≡ Some y.state) front.steps (ap (m.step s) is_thread ∙ leads);
     findings = each (λ y. right y.state y.finding) front.findings is;
     fit = each (λ y. m.Fits y.state) front.fit fits;
@@ -123,19 +115,13 @@ module _ {S : Type 0} (m : StepMachine S) (right : S → Finding → Type 0) (s 
       λ y. record { thread = y.thread; state = unwrap_or (m.step s y.thread) s; finding = y.finding } in
       let goes : m.step s x.thread ≡ Some next = ap (m.step s) is_thread ∙ leads in
       let same : unwrap_or (m.step s x.thread) s ≡ next = ap (λ (o : Option S). unwrap_or o s) goes in
-      let more : steps_of m.step s new ≡ steps_of m.step s old ++ one x ∷ [] =
-      ap (steps_of m.step s) pushed ∙ map_push one old x in
-      let is_one : x ≡ labelled label_of (one x) =
-      ap (λ (l : List ℕ). record { thread = x.thread; state = l; finding = x.finding })
-      (is_label ∙ ap label_of (sym same)) in
+      let more : steps_of m.step s new ≡ steps_of m.step s old ++ one x ∷ [] = rw pushed (map_push one old x) in
+      let is_one : x ≡ labelled label_of (one x) = rw (same, ← is_label) refl in
       record {
         front = front_more n (steps_of m.step s old) (steps_of m.step s new) (one x) by.front is_thread
             (leads ∙ ap Some (sym same)) (subst (λ r. right r x.finding) (sym same) is) (subst m.Fits (sym same) fits)
             more;
-        labels = pushed ∙ ap (λ ys. ys ++ x ∷ []) by.labels
-            ∙ ap (λ y. map (labelled label_of) (steps_of m.step s old) ++ y ∷ []) is_one
-            ∙ sym (map_push (labelled label_of) (steps_of m.step s old) (one x))
-            ∙ sym (ap (map (labelled label_of)) more);
+        labels = rw (more, map_push (labelled label_of) (steps_of m.step s old) (one x), ← by.labels, ← is_one) pushed;
       }
 
   pub front_by_put : (label_of : S → List ℕ) (n : ℕ) (old new : List (Successor (List ℕ))) → IsFrontBy label_of n old

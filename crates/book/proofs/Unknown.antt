@@ -1,7 +1,8 @@
 -- What `unknown` keeps of a list of successors.
-use Rattle.std.proofs.Common.{◌≡◌, ℕ, zero, suc, ◌⊎◌, inl, inr, Bool, true, false, Some, List, [], ◌∷◌, ◌++◌, ◌||◌}
+use Rattle.std.proofs.Common.{◌≡◌, ℕ, zero, suc, ◌⊎◌, inl, inr, Bool, true, false, Some, List, [], ◌∷◌, ◌++◌}
 use Rattle.std.proofs.Common.{refl, sym, ap, ◌∙◌, slice_get}
 use Rattle.std.specs.List.{list_any}
+use Rattle.std.proofs.lemmas.List.Folds.{list_any-append}
 use Rattle.std.proofs.lemmas.Bool.{or_cases, or_parts, true≢false, cond_both}
 use Rattle.replay.specs.Schedule.{StepMachine, Merges}
 use Rattle.book.specs.Entries.{Entry, Successor, At, states}
@@ -16,10 +17,6 @@ list_any-true test (x ∷ xs) h =
       | inl l ↦ (0, x, refl, l)
       | inr r ↦ let i = list_any-true test xs r in (suc i.0, i.1, i.2, i.3)
     ]
-
-or_assoc : (a b c : Bool) → (a || (b || c)) ≡ ((a || b) || c)
-or_assoc true b c = refl
-or_assoc false b c = refl
 
 -- no element does
 pub list_any-false : {X : Type 0} (test : X → Bool) (xs : List X) → list_any test xs ≡ false → (k : ℕ) (x : X)
@@ -44,12 +41,6 @@ pub get-cons_cases : {X : Type 0} (x : X) (xs : List X) (k : ℕ) (y : X) → sl
     → ((k ≡ 0) × (x ≡ y)) ⊎ ((j : ℕ) × (k ≡ suc j) × (slice_get xs j ≡ Some y))
 get-cons_cases x xs zero y h = inl (refl, (cc))
 get-cons_cases x xs (suc k) y h = inr (k, refl, h)
-
-pub list_any-append : {X : Type 0} (test : X → Bool) (xs ys : List X)
-    → list_any test (xs ++ ys) ≡ (list_any test xs || list_any test ys)
-list_any-append test [] ys = refl
-list_any-append test (x ∷ xs) ys =
-    ap (λ b. test x || b) (list_any-append test xs ys) ∙ or_assoc (test x) (list_any test xs) (list_any test ys)
 
 module _ {S : Type 0} (m : StepMachine S) (same : S → S → Bool) (merges : Merges m same) where
   not_known : (known : List S) (r s : S) → knows same (known ++ r ∷ []) s ≡ false → (knows same known s ≡ false)

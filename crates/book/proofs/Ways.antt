@@ -3,7 +3,6 @@ use Rattle.std.proofs.Common.{◌≡◌, ℕ, ◌+◌, ◌<◌, inl, inr, Bool, 
 use Rattle.std.proofs.Common.{sym, ap, ◌∙◌, arith, slice_get, subst}
 use Rattle.std.proofs.lemmas.Bool.{cases_lt}
 use Rattle.std.proofs.lemmas.List.{reverse-append, reverse-reverse}
-use Rattle.std.specs.Option.{option_and_then}
 use Rattle.std.proofs.lemmas.Option.{option_and_then_some, same_Some, slice_get_within}
 use Rattle.replay.specs.declared.finding.Finding.{Finding}
 use Rattle.book.specs.declared.entry.Origin.{Origin}
@@ -48,16 +47,12 @@ module _ {S : Type 0} (m : StepMachine S) (same : S → S → Bool) (right : S �
             let made = law.origins k e at later in
             let is : made.origin ≡ o = same_Some made.origin o (sym made.recorded ∙ recorded) in (
               made.parent,
-              subst (λ (q : Origin). At es q.parent made.parent) is made.entered,
-              subst (λ (q : Origin). q.parent < k) is made.earlier,
-              subst (λ (q : Origin). m.step made.parent.state q.thread ≡ Some e.state) is made.step,
+              rw is at made.entered,
+              rw is at made.earlier,
+              rw is at made.step,
             ))
         | inr none ↦ absurd (
-            let first : k ≡ 0 = omega arith in
-            let same_entry : law.start.0 ≡ e =
-            same_Some law.start.0 e (sym law.start.1 ∙ ap (λ n. slice_get es n) (sym first) ∙ at) in
-            let none_recorded : e.origin ≡ None = ap (λ (x : Entry S). x.origin) (sym same_entry) ∙ law.start.3 in
-            let both : None ≡ Some o = sym none_recorded ∙ recorded in cc)
+            let first : k ≡ 0 = omega arith in cc (first, at, law.start.1, law.start.3, recorded))
       ]
 
   -- one step back along the way
@@ -92,17 +87,15 @@ module _ {S : Type 0} (m : StepMachine S) (same : S → S → Bool) (right : S �
   way_leads (t ∷ c) i j e f at there way =
       let made = step_of way.0 way.1 (record { parent = i; thread = t }) way.2 way.3 in
       let parent : made.0 ≡ e = same_Some made.0 e (sym made.1 ∙ at) in
-      let first : m.step e.state t ≡ Some way.1.state =
-      subst (λ (x : Entry S). m.step x.state t ≡ Some way.1.state) parent made.3 in
-      ap (λ o. option_and_then (λ (r : S). run m r c) o) first ∙ way_leads c way.0 j way.1 f way.2 there way.4
+      let first : m.step e.state t ≡ Some way.1.state = rw parent at made.3 in
+      rw first (way_leads c way.0 j way.1 f way.2 there way.4)
 
   -- from the start it reaches the entry's state, in as many steps as this has behind it
   pub way_run : IsMachine m → (c : List ℕ) (j : ℕ) (f : Entry S) → At es j f → IsWay es 0 c j
       → (after m c ≡ Some f.state) × (length c ≡ m.steps f.state)
   way_run machine c j f there way =
       let leads : after m c ≡ Some f.state =
-      subst (λ (s : S). run m s c ≡ Some f.state) law.start.2
-      (way_leads c 0 j law.start.0 f law.start.1 there way) in
+      rw law.start.2 at (way_leads c 0 j law.start.0 f law.start.1 there way) in
       (leads, sym (steps_after m machine c f.state leads))
 
   -- a way as it is gone back: its last thread first
@@ -132,12 +125,11 @@ module _ {S : Type 0} (m : StepMachine S) (same : S → S → Bool) (right : S �
       absurd (start_ends j also.1 (record { parent = also.0; thread = u }) way also.2 also.3)
   back_once (t ∷ c) [] j way also = absurd (start_ends j way.1 (record { parent = way.0; thread = t }) also way.2 way.3)
   back_once (t ∷ c) (u ∷ d) j way also =
-      let entry : way.1 ≡ also.1 = same_Some way.1 also.1 (sym way.2 ∙ also.2) in
       let o : Origin = record { parent = way.0; thread = t } in
       let p : Origin = record { parent = also.0; thread = u } in
-      let origin : o ≡ p = same_Some o p (sym way.3 ∙ ap (λ (x : Entry S). x.origin) entry ∙ also.3) in
+      let origin : o ≡ p = cc (way.2, also.2, way.3, also.3) in
       let parent : also.0 ≡ way.0 = ap (λ (q : Origin). q.parent) (sym origin) in
-      let rest : c ≡ d = back_once c d way.0 way.4 (subst (λ n. IsWayBack 0 n d) parent also.4) in
+      let rest : c ≡ d = back_once c d way.0 way.4 (rw parent at also.4) in
       let thread : t ≡ u = ap (λ (q : Origin). q.thread) origin in
       cc
 

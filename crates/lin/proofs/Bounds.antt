@@ -47,6 +47,13 @@ rank_same (ops ∷ rest) (suc t) i (suc u) j h k e =
     (ap suc same.0, same.1)
 
 module _ (program : Program) where
+  -- the operation with which an order begins that gives the replies
+  pub first_given : (history : History) (keys : Keys) (a : OpId) (rest : List OpId)
+      → GivesReplies program history keys (a ∷ rest)
+      → (o : Op) × (op_at program a.thread a.index ≡ Some o)
+      × (IfSome (reply history a) (λ r. r ≡ reply_on o keys) × GivesReplies program history (keys_after o keys) rest)
+  first_given history keys a rest given = IsSomeAnd-value (op_at program a.thread a.index) _ given
+
   abbrev rank_of : OpId → ℕ
   rank_of a = rank program.threads a.thread a.index
 
@@ -58,10 +65,7 @@ module _ (program : Program) where
       → (history : History) (keys : Keys) (order : List OpId) → GivesReplies program history keys order → All P order
   all_given P each history keys [] given = All-nil P
   all_given P each history keys (a ∷ rest) given =
-      let op =
-      IsSomeAnd-value (op_at program a.thread a.index)
-      (λ (o : Op). IfSome (reply history a) (λ r. r ≡ reply_on o keys)
-      × GivesReplies program history (keys_after o keys) rest) given in
+      let op = first_given history keys a rest given in
       All-cons P a rest (each a op.0 op.1) (all_given P each history (keys_after op.0 keys) rest op.2.1)
 
   same_op : (a b : OpId) → IsNamed a → IsNamed b → rank_of a ≡ rank_of b → a ≡ b

@@ -1,9 +1,9 @@
 -- A list is a linearization exactly if it completes one from nothing.
 use Rattle.std.proofs.Common.{◌≡◌, ◌≢◌, ℕ, zero, suc, ◌+◌, ◌<◌, ◌≤◌, ◌⊎◌, inl, inr, true, false, true≢false, List, []}
 use Rattle.std.proofs.Common.{◌∷◌, length, get_or, take, drop, Some, IsSome, IfSome, All, AllPairs, Contains, slice_get}
-use Rattle.std.proofs.Common.{refl, sym, ◌∙◌, arith, ◌↔◌}
+use Rattle.std.proofs.Common.{refl, sym, ◌∙◌, arith, rules, ◌↔◌}
 use mathlib.Core.Path.{fun_ext}
-use Rattle.std.proofs.lemmas.Bool.{or_cases, or_parts, or_from, or_left, or_right, false_from_ne_true}
+use Rattle.std.proofs.lemmas.Bool.{or_parts, or_from, false_from_ne_true}
 use Rattle.std.proofs.lemmas.List.Elements.{All-head, All-tail, All-cons, Contains-get_or}
 use Rattle.std.proofs.lemmas.List.{drop_more, take_all, drop_all}
 use Rattle.std.proofs.lemmas.List.Folds.{list_any_more}
@@ -18,8 +18,9 @@ use Rattle.sched_program.specs.Program.{op_at}
 use Rattle.sched_program.specs.History.{reply, IsBegun, EndedBefore}
 use Rattle.lin.specs.Linearization.{GivesReplies, IsLinearization}
 use Rattle.lin.specs.Completion.{Listed, listed_in, with_name, StandsNext, Completes, EveryFinishedIsListed}
-use Rattle.lin.proofs.Names.{same_name_self, same_name-is}
-use Rattle.lin.proofs.Lists.{IsSomeAnd-value, IsSomeAnd-of, Contains-head, Contains-tail, Contains-cases}
+use Rattle.lin.proofs.Bounds.{first_given}
+use Rattle.lin.proofs.Names.{same_name_self, same_name-is, with_name-cases, with_name-earlier, with_name-itself}
+use Rattle.lin.proofs.Lists.{IsSomeAnd-value, Contains-head, Contains-tail, Contains-cases}
 use Rattle.lin.proofs.Lists.{not-Contains-nil, slice_get-Contains, Contains-slice_get, AllPairs-tail, AllPairs-first}
 
 -- the facts of a linearization, of a list that follows a set of operations
@@ -42,11 +43,11 @@ module _ (program : Program) (history : History) where
   stands listed keys x xs o is gives l = record {
     begun = All-head (IsBegun history) x xs l.begun;
     new = l.new x (Contains-head x xs);
-    in_time = λ b among ended. elim (or_cases (listed b) (same_name x b) among) [
+    in_time = λ b among ended. elim (with_name-cases listed x b among) [
       | inl earlier ↦ l.after x b (Contains-head x xs) earlier ended
-      | inr same ↦ not_itself (rw (← same_name-is x b same) at ended)
+      | inr same ↦ not_itself (rw (← same) at ended)
     ];
-    gives = IsSomeAnd-of (op_at program x.thread x.index) _ o is (gives, refl);
+    gives = rw is (gives, refl);
   }
     where
       not_itself : EndedBefore history x x → ⊥
@@ -62,17 +63,16 @@ module _ (program : Program) (history : History) where
         (false_from_ne_true (same_name x a)
         (λ same. AllPairs-first (λ a b. a ≢ b) x xs l.distinct a among (same_name-is x a same)));
     complete = λ a finished. elim (l.complete a finished) [
-      | inl earlier ↦ inl (or_left (listed a) (same_name x a) earlier)
+      | inl earlier ↦ inl (with_name-earlier listed x a earlier)
       | inr among ↦ elim (Contains-cases x xs a among) [
-        | inl same
-            ↦ inl (or_right (listed a) (same_name x a) (rw (← same) (same_name_self x)))
+        | inl same ↦ inl (rw (← same) (with_name-itself listed x))
         | inr later ↦ inr later
       ]
     ];
     in_time = λ i j a b at_i at_j ended. omega (arith, l.in_time (suc i) (suc j) a b at_i at_j ended);
-    after = λ a b among earlier ended. elim (or_cases (listed b) (same_name x b) earlier) [
+    after = λ a b among earlier ended. elim (with_name-cases listed x b earlier) [
       | inl before ↦ l.after a b (Contains-tail x xs a among) before ended
-      | inr same ↦ not_before a (slice_get-Contains xs a among) (rw (same_name-is x b same) ended)
+      | inr same ↦ not_before a (slice_get-Contains xs a among) (rw same ended)
     ];
     replies = gives;
   }
@@ -88,10 +88,7 @@ module _ (program : Program) (history : History) where
         | inr among ↦ absurd (not-Contains-nil a among)
       ]
   completes listed keys (x ∷ xs) l =
-      let first =
-      IsSomeAnd-value (op_at program x.thread x.index)
-      (λ o. IfSome (reply history x) (λ r. r ≡ reply_on o keys)
-      × GivesReplies program history (keys_after o keys) xs) l.replies in
+      let first = first_given program history keys x xs l.replies in
       let next = keys_after first.0 keys in (
         next,
         stands listed keys x xs first.0 first.1 first.2.0 l,
@@ -125,23 +122,22 @@ module _ (program : Program) (history : History) where
           | inr later ↦ (or_parts (listed a) (same_name x a) (l.new a later)).0
         ];
         complete = λ a finished. elim (l.complete a finished) [
-          | inl earlier ↦ elim (or_cases (listed a) (same_name x a) earlier) [
+          | inl earlier ↦ elim (with_name-cases listed x a earlier) [
             | inl before ↦ inl before
-            | inr same ↦ inr (rw (← same_name-is x a same) (Contains-head x xs))
+            | inr same ↦ inr (rw (← same) (Contains-head x xs))
           ]
           | inr later ↦ inr (Contains-tail x xs a later)
         ];
         in_time = places;
         after = λ a b among earlier ended. elim (Contains-cases x xs a among) [
-          | inl same ↦ s.in_time b (or_left (listed b) (same_name x b) earlier) (rw same ended)
-          | inr later ↦ l.after a b later (or_left (listed b) (same_name x b) earlier) ended
+          | inl same ↦ s.in_time b (with_name-earlier listed x b earlier) (rw same ended)
+          | inr later ↦ l.after a b later (with_name-earlier listed x b earlier) ended
         ];
-        replies = run;
+        replies =
+            let gives = IsSomeAnd-value (op_at program x.thread x.index) _ s.gives in
+            rw gives.1 (gives.2.0, rw (← gives.2.1) l.replies);
       }
         where
-          itself : with_name listed x x ≡ true
-          itself = or_right (listed x) (same_name x x) (same_name_self x)
-
           different : (y : OpId) → Contains xs y → x ≢ y
           different y among same =
               let other = (or_parts (listed y) (same_name x y) (l.new y among)).1 in
@@ -152,60 +148,37 @@ module _ (program : Program) (history : History) where
           places zero zero a b at_i at_j ended =
               let first : a ≡ x = cc in
               let second : b ≡ x = cc in
-              absurd (s.in_time x itself (rw (first, second) at ended))
+              absurd (s.in_time x (with_name-itself listed x) (rw (first, second) at ended))
           places zero (suc j) a b at_i at_j ended = omega arith
           places (suc i) zero a b at_i at_j ended =
               let second : x ≡ b = cc in
-              absurd (l.after a x (Contains-slice_get xs i a at_i) itself (rw second ended))
+              absurd (l.after a x (Contains-slice_get xs i a at_i) (with_name-itself listed x) (rw second ended))
           places (suc i) (suc j) a b at_i at_j ended = omega (arith, l.in_time i j a b at_i at_j ended)
-
-          run : GivesReplies program history keys (x ∷ xs)
-          run =
-              let gives =
-              IsSomeAnd-value (op_at program x.thread x.index)
-              (λ o. IfSome (reply history x) (λ r. r ≡ reply_on o keys) × (next ≡ keys_after o keys)) s.gives in
-              IsSomeAnd-of (op_at program x.thread x.index)
-              (λ o. IfSome (reply history x) (λ r. r ≡ reply_on o keys)
-              × GivesReplies program history (keys_after o keys) xs) gives.0 gives.1
-              (gives.2.0, rw (← gives.2.1) l.replies)
 
   -- a linearization completes what begins with nothing, and what completes that is a linearization
   pub IsLinearization-completes : (order : List OpId) → IsLinearization program history order
       → Completes program history (listed_in []) (keys_of program.initial) order
-  IsLinearization-completes order l = completes (listed_in []) (keys_of program.initial) order record {
-    begun = l.begun;
-    distinct = l.distinct;
-    new = λ a among. refl;
-    complete = λ a finished. inr (l.complete a finished);
-    in_time = l.in_time;
-    after = λ a b among earlier ended. true≢false (sym earlier);
-    replies = l.replies;
-  }
+  IsLinearization-completes order l = completes (listed_in []) (keys_of program.initial) order (
+      let new : (a : OpId) → Contains order a → listed_in [] a ≡ false = λ a among. refl in search rules
+      )
 
   pub Completes-linearization : (order : List OpId)
       → Completes program history (listed_in []) (keys_of program.initial) order → IsLinearization program history order
   Completes-linearization order c =
       let l = completes_linearization_after (listed_in []) (keys_of program.initial) order c in
-      record {
-        begun = l.begun;
-        distinct = l.distinct;
-        complete =
-            λ a finished. elim (l.complete a finished) [
-              | inl earlier ↦ absurd (true≢false (sym earlier))
-              | inr among ↦ among
-            ];
-        in_time = l.in_time;
-        replies = l.replies;
-      }
+      let complete : (a : OpId) → IsSome (reply history a) → Contains order a =
+      λ a finished. elim (l.complete a finished) [
+        | inl earlier ↦ absurd (true≢false (sym earlier))
+        | inr among ↦ among
+      ] in
+      search rules
 
   -- an operation that comes next leaves one set of keys
   pub StandsNext-same : (listed : Listed) (keys next next' : Keys) (a : OpId)
       → StandsNext program history listed keys a next → StandsNext program history listed keys a next' → next ≡ next'
   StandsNext-same listed keys next next' a s t =
-      let P : Keys → Op → Type 0 =
-      λ k o. IfSome (reply history a) (λ r. r ≡ reply_on o keys) × (k ≡ keys_after o keys) in
-      let one = IsSomeAnd-value (op_at program a.thread a.index) (P next) s.gives in
-      let two = IsSomeAnd-value (op_at program a.thread a.index) (P next') t.gives in
+      let one = IsSomeAnd-value (op_at program a.thread a.index) _ s.gives in
+      let two = IsSomeAnd-value (op_at program a.thread a.index) _ t.gives in
       cc (one.1, two.1, one.2.1, two.2.1)
 
   pub Completes-first : (listed : Listed) (keys next : Keys) (x : OpId) (rest : List OpId)

@@ -1,17 +1,17 @@
 -- Each operation of a program has a place, and so has each one of a linearization, and each one whose reply after an
 -- order is known.
-use Rattle.std.proofs.Common.{◌≡◌, ◌<◌, ◌≤◌, inl, inr, Bool, true, false, cond, List, [], ◌∷◌, Option, Some, None}
+use Rattle.std.proofs.Common.{◌≡◌, ◌<◌, ◌≤◌, inl, inr, Bool, List, [], ◌∷◌, Some}
 use Rattle.std.proofs.Common.{length, All, slice_get, sym, ◌∙◌, ap, arith, subst}
-use Rattle.std.specs.Option.{option_map}
 use Rattle.std.specs.Prelude.{option_and_then}
 use Rattle.std.proofs.lemmas.List.Elements.{All-get_or}
-use Rattle.std.proofs.lemmas.Option.{slice_get_cases, slice_get_within}
+use Rattle.std.proofs.lemmas.Option.{slice_get_cases, slice_get_within, option_and_then_some}
+use Rattle.std.proofs.lemmas.Bool.{cases_Bool}
 use Rattle.sched_program.specs.declared.operation.OpId.{OpId}
 use Rattle.sched_program.specs.declared.operation.Op.{Op}
 use Rattle.sched_program.specs.Name.{same_name}
 use Rattle.sched_program.specs.Program.{Program, IsWithinLimits, op_at}
 use Rattle.sched_program.specs.History.{History}
-use Rattle.lin.specs.Keys.{Keys, keys_of, keys_after, reply_on}
+use Rattle.lin.specs.Keys.{Keys, keys_of, keys_after}
 use Rattle.lin.specs.Linearization.{IsLinearization}
 use Rattle.lin.specs.Timeline.{HasPlace}
 use Rattle.lin.specs.Reply.{reply_in}
@@ -44,21 +44,13 @@ module _ (program : Program) (limits : IsWithinLimits program) where
       all_given program HasPlace named_placed history (keys_of program.initial) order is.replies
 
   -- it replies at its own place, or in what comes behind
-  replies_placed : (keys : Keys) (rest : List OpId) (a : OpId) (r : Bool) (is_here : Bool) (next : Option Op)
-      → ((o : Op) → reply_in program (keys_after o keys) rest a ≡ Some r → HasPlace a)
-      → cond is_here (option_map (λ o. reply_on o keys) (op_at program a.thread a.index))
-      (option_and_then (λ o. reply_in program (keys_after o keys) rest a) next) ≡ Some r → HasPlace a
-  replies_placed keys rest a r true next later is =
-      let op = op_of_reply (op_at program a.thread a.index) keys r is in
-      named_placed a op.0 op.1
-  replies_placed keys rest a r false None later is = absurd (let none : None ≡ Some r = is in cc)
-  replies_placed keys rest a r false (Some o) later is = later o is
-
   pub reply_placed : (keys : Keys) (order : List OpId) (a : OpId) (r : Bool) → reply_in program keys order a ≡ Some r
       → HasPlace a
   reply_placed keys [] a r is =
-      let op = op_of_reply (op_at program a.thread a.index) keys r is in
-      named_placed a op.0 op.1
-  reply_placed keys (b ∷ rest) a r is =
-      replies_placed keys rest a r (same_name b a) (op_at program b.thread b.index)
-      (λ o. reply_placed (keys_after o keys) rest a r) is
+      let op = op_of_reply (op_at program a.thread a.index) keys r is in named_placed a op.0 op.1
+  reply_placed keys (b ∷ rest) a r is = elim (cases_Bool (same_name b a)) [
+    | inl same ↦
+        let op = op_of_reply (op_at program a.thread a.index) keys r (rw same at is) in named_placed a op.0 op.1
+    | inr other ↦ option_and_then_some _ (op_at program b.thread b.index) r (rw other at is)
+        (λ o at later. reply_placed (keys_after o keys) rest a r later)
+  ]

@@ -1,8 +1,9 @@
 -- What a search place by place knows of the operations that it tried.
-use Rattle.std.proofs.Common.{◌≡◌, ℕ, ◌+◌, ◌<◌, ◌≤◌, ◌||◌, inl, inr, Bool, true, false, cond, true≢false, List, [], ◌∷◌}
-use Rattle.std.proofs.Common.{◌++◌, length, Option, Some, None, IsSome, refl, sym, ◌∙◌, ap, arith}
+use Rattle.std.proofs.Common.{◌≡◌, ℕ, ◌+◌, ◌<◌, ◌≤◌, ◌||◌, inl, inr, Bool, true, false, true≢false, List, [], ◌∷◌}
+use Rattle.std.proofs.Common.{◌++◌, length, Option, Some, None, IsSome, sym, ◌∙◌, ap, arith}
 use Rattle.std.proofs.Common.{append_assoc}
-use Rattle.std.proofs.lemmas.Bool.{or_right}
+use Rattle.std.proofs.Math.Bool.{or-false}
+use Rattle.std.proofs.lemmas.Bool.{cases_Bool}
 use mathlib.Core.Path.{fun_ext}
 use Rattle.std.specs.Option.{option_to_list}
 use Rattle.std.proofs.lemmas.List.{length_push, same_from_push}
@@ -16,18 +17,13 @@ use Rattle.sched_program.specs.History.{IsBegun}
 use Rattle.lin.specs.Linearization.{IsLinearization}
 use Rattle.lin.specs.Completion.{Listed, listed_in, with_name, StandsNext, Completes, EveryFinishedIsListed, IsHopeless}
 use Rattle.lin.specs.Completion.{MustWait}
-use Rattle.lin.proofs.Names.{same_name_self, same_name-is}
+use Rattle.lin.proofs.Names.{same_name-is, with_name-itself}
 use Rattle.lin.proofs.Completions.{completes_linearization_after, StandsNext-same, IsLinearization-completes}
 use Rattle.lin.proofs.Completions.{Completes-linearization}
 
-or_nothing : (a b : Bool) → (a || (b || false)) ≡ (a || b)
-or_nothing true b = refl
-or_nothing false true = refl
-or_nothing false false = refl
-
 listed_push : (order : List OpId) (a : OpId) → listed_in (order ++ a ∷ []) ≡ with_name (listed_in order) a
 listed_push order a =
-    fun_ext (λ b. list_any-append (λ c. same_name c b) order (a ∷ []) ∙ or_nothing (listed_in order b) (same_name a b))
+    fun_ext (λ b. list_any-append (λ c. same_name c b) order (a ∷ []) ∙ rw (or-false (same_name a b)))
 
 -- a pop takes back what was pushed
 pub popped : {X : Type 0} (ys xs zs : List X) (a : X) (r : Option X) → zs ≡ ys ++ option_to_list r → zs ≡ xs ++ a ∷ []
@@ -46,13 +42,7 @@ unlisted_count listed [] = 0
 unlisted_count listed (x ∷ xs) = weight (listed x.0) + unlisted_count listed xs
 
 weight_falls : (b c : Bool) → weight (b || c) ≤ weight b
-weight_falls true c = omega arith
-weight_falls false true = omega arith
-weight_falls false false = omega arith
-
-weight_listed : (b : Bool) → weight (b || true) ≡ 0
-weight_listed true = refl
-weight_listed false = refl
+weight_falls b c = grind (arith, cases_Bool b)
 
 module _ {V : Type 0} (listed : Listed) (a : OpId) where
   unlisted_le : (xs : List (OpId × V)) → unlisted_count (with_name listed a) xs ≤ unlisted_count listed xs
@@ -63,22 +53,19 @@ module _ {V : Type 0} (listed : Listed) (a : OpId) where
   pub unlisted_falls : (xs : List (OpId × V)) → listed a ≡ false → IsSome (value_at xs a)
       → unlisted_count (with_name listed a) xs < unlisted_count listed xs
   unlisted_falls [] new some = absurd (true≢false (sym some))
-  unlisted_falls (x ∷ xs) new some = by_name (same_name x.0 a) refl some (λ later. unlisted_falls xs new later)
-    where
-      by_name : (b : Bool) → same_name x.0 a ≡ b → IsSome (cond b (Some x.1) (value_at xs a))
-          → (IsSome (value_at xs a) → unlisted_count (with_name listed a) xs < unlisted_count listed xs)
-          → unlisted_count (with_name listed a) (x ∷ xs) < unlisted_count listed (x ∷ xs)
-      by_name true e some rest =
-          let is : x.0 ≡ a = same_name-is x.0 a e in
-          let before : weight (listed x.0) ≡ 1 = rw (is, new) in
-          let after : weight (listed x.0 || same_name a x.0) ≡ 0 =
-          rw (is, same_name_self a) (weight_listed (listed a)) in
-          omega (arith, unlisted_le xs, before, after)
-      by_name false e some rest = omega (arith, rest some, weight_falls (listed x.0) (same_name a x.0))
+  unlisted_falls (x ∷ xs) new some = elim (cases_Bool (same_name x.0 a)) [
+    | inl same ↦
+        let is = same_name-is x.0 a same in
+        let before : weight (listed x.0) ≡ 1 = rw (is, new) in
+        let after : weight (with_name listed a x.0) ≡ 0 = rw (is, with_name-itself listed a) in
+        omega (arith, unlisted_le xs, before, after)
+    | inr other ↦
+        omega (arith, unlisted_falls xs new (rw other at some), weight_falls (listed x.0) (same_name a x.0))
+  ]
 
 -- an operation that comes next was pushed on the order
-module _ (program : Program) (history : History) (order before pushed : List OpId) (listed : Listed) (keys next : Keys)
-    (a : OpId) (are : listed ≡ listed_in order) (stands_next : StandsNext program history listed keys a next)
+module _ {program : Program} {history : History} {order before pushed : List OpId} {listed : Listed} {keys next : Keys}
+    {a : OpId} (are : listed ≡ listed_in order) (stands_next : StandsNext program history listed keys a next)
     (same : before ≡ order) (push : pushed ≡ before ++ a ∷ []) where
   stands : StandsNext program history (listed_in order) keys a next
   stands = rw are at stands_next
@@ -123,7 +110,7 @@ module _ (program : Program) (history : History) where
       let l = completes_linearization_after program history (with_name listed a) c.0 rest c.2 in
       elim (l.complete w.0 w.1) [
         | inl earlier ↦ true≢false (sym earlier ∙ w.2.0)
-        | inr later ↦ l.after w.0 a later (or_right (listed a) (same_name a a) (same_name_self a)) w.2.1
+        | inr later ↦ l.after w.0 a later (with_name-itself listed a) w.2.1
       ]
 
   -- where each begun operation was tried, nothing completes

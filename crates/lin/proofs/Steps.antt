@@ -1,17 +1,16 @@
 -- Whether an operation may come next, from sets of operations.
 use Rattle.std.proofs.Common.{◌≡◌, ◌&&◌, ◌||◌, Bool, true, false, true≢false, List, [], ◌∷◌, IsSome, MatchBool, ◌↔◌}
-use Rattle.std.proofs.Common.{Option, Some, IfSome, inl, inr, refl, sym, ◌∙◌, ap}
-use Rattle.std.proofs.lemmas.Bool.{or_cases, or_parts, or_left, or_right, and_parts}
+use Rattle.std.proofs.Common.{inl, inr, refl, sym, ◌∙◌, ap}
+use Rattle.std.proofs.lemmas.Bool.{or_cases, or_parts, or_left, or_right, and_parts, cases_Bool, true_from_ne_false}
 use Rattle.sched_program.specs.declared.operation.OpId.{OpId}
-use Rattle.sched_program.specs.declared.operation.Op.{Op}
-use Rattle.sched_program.specs.Program.{Program, op_at}
-use Rattle.sched_program.specs.History.{History, IsHistory, IsBegun, reply, EndedBefore}
+use Rattle.sched_program.specs.Program.{Program}
+use Rattle.sched_program.specs.History.{History, IsHistory, reply, EndedBefore}
 use Rattle.sched_program.specs.Name.{same_name}
-use Rattle.lin.specs.Keys.{Keys, reply_on, keys_after}
-use Rattle.lin.specs.Completion.{Listed, listed_in, with_name, StandsNext, EveryFinishedIsListed, Completes}
+use Rattle.lin.specs.Keys.{Keys}
+use Rattle.lin.specs.Completion.{Listed, listed_in, with_name, EveryFinishedIsListed, Completes}
 use Rattle.lin.specs.Timeline.{HasPlace, finished_in}
 use Rattle.lin.specs.Progress.{AreBarred}
-use Rattle.lin.proofs.Names.{same_name_self, same_name-is}
+use Rattle.lin.proofs.Names.{same_name-is, with_name-cases, with_name-earlier, with_name-itself}
 use Rattle.lin.proofs.Search.{not_yet}
 use Rattle.lin.proofs.Timelines.{finished_placed}
 
@@ -25,9 +24,9 @@ module _ (history : History) (listed barred before : Listed) (name : OpId) (has 
       let sets = or_parts (listed name || barred name) (before name) none in
       let pieces = or_parts (listed name) (barred name) sets.0 in (
         pieces.0,
-        λ b among ended. elim (or_cases (listed b) (same_name name b) among) [
+        λ b among ended. elim (with_name-cases listed name b among) [
           | inl earlier ↦ true≢false (sym ((barred_are name has).1 (b, earlier, ended)) ∙ pieces.1)
-          | inr same ↦ true≢false (sym ((before_are name has).1 (rw (← same_name-is name b same) at ended)) ∙ sets.1)
+          | inr same ↦ true≢false (sym ((before_are name has).1 (rw (← same) at ended)) ∙ sets.1)
         ],
       )
 
@@ -39,10 +38,9 @@ module _ (history : History) (listed barred before : Listed) (name : OpId) (has 
       | inl first ↦ elim (or_cases (listed name) (barred name) first) [
         | inl earlier ↦ true≢false (sym earlier ∙ c.1.new)
         | inr late ↦ let ended = (barred_are name has).0 late in
-            c.1.in_time ended.0 (or_left (listed ended.0) (same_name name ended.0) ended.1) ended.2
+            c.1.in_time ended.0 (with_name-earlier listed name ended.0 ended.1) ended.2
       ]
-      | inr itself ↦ c.1.in_time name (or_right (listed name) (same_name name name) (same_name_self name))
-          ((before_are name has).0 itself)
+      | inr itself ↦ c.1.in_time name (with_name-itself listed name) ((before_are name has).0 itself)
     ]
 
     -- and each finished operation that ended before it began is listed
@@ -52,23 +50,11 @@ module _ (history : History) (listed barred before : Listed) (name : OpId) (has 
         let pieces = and_parts (before a) (finished a) among in
         let some : IsSome (reply history a) = sym (ap (λ f. f a) finished_are) ∙ pieces.1 in
         let ended : EndedBefore history a name = (before_are a (finished_placed history events a some)).0 pieces.0 in
-        by_listed (listed a) refl some ended
-      where
-        itself : same_name name a ≡ true → EndedBefore history a name → ⊥
-        itself same ended =
-            c.1.in_time name (or_right (listed name) (same_name name name) (same_name_self name))
-            (rw (← same_name-is name a same) at ended)
-
-        missing : (b : Bool) → same_name name a ≡ b → listed a ≡ false → IsSome (reply history a)
-            → EndedBefore history a name → ⊥
-        missing true same not_listed some ended = itself same ended
-        missing false other not_listed some ended =
-            not_yet program history listed keys name
-            (a, some, (ap (λ b. b || same_name name a) not_listed ∙ other, ended)) rest c
-
-        by_listed : (b : Bool) → listed a ≡ b → IsSome (reply history a) → EndedBefore history a name → b ≡ true
-        by_listed true l some ended = refl
-        by_listed false l some ended = absurd (missing (same_name name a) refl l some ended)
+        true_from_ne_false (listed a) (λ new. elim (cases_Bool (same_name name a)) [
+          | inl same ↦
+              c.1.in_time name (with_name-itself listed name) (rw (← same_name-is name a same) at ended)
+          | inr other ↦ not_yet program history listed keys name (a, some, (rw (new, other), ended)) rest c
+        ])
 
 -- with one more operation listed, those that ended before it began are barred too
 pub barred_more : (history : History) (listed barred before : Listed) (name : OpId) → AreBarred history listed barred
@@ -77,13 +63,12 @@ pub barred_more : (history : History) (listed barred before : Listed) (name : Op
 barred_more history listed barred before name barred_are before_are a has = (
   λ some. elim (or_cases (barred a) (before a) some) [
     | inl earlier ↦ let ended = (barred_are a has).0 earlier in
-        (ended.0, or_left (listed ended.0) (same_name name ended.0) ended.1, ended.2)
-    | inr now ↦ (name, or_right (listed name) (same_name name name) (same_name_self name), (before_are a has).0 now)
+        (ended.0, with_name-earlier listed name ended.0 ended.1, ended.2)
+    | inr now ↦ (name, with_name-itself listed name, (before_are a has).0 now)
   ],
-  λ ended. elim (or_cases (listed ended.0) (same_name name ended.0) ended.1) [
+  λ ended. elim (with_name-cases listed name ended.0 ended.1) [
     | inl earlier ↦ or_left (barred a) (before a) ((barred_are a has).1 (ended.0, earlier, ended.2))
-    | inr same ↦ or_right (barred a) (before a)
-        ((before_are a has).1 (rw (same_name-is name ended.0 same) ended.2))
+    | inr same ↦ or_right (barred a) (before a) ((before_are a has).1 (rw same ended.2))
   ],
 )
 
@@ -101,16 +86,3 @@ pub every_listed : (history : History) (finished listed : Listed) → finished �
     → ((a : OpId) → finished a ≡ true → listed a ≡ true) ↔ EveryFinishedIsListed history listed
 every_listed history finished listed are =
     (λ within a some. within a (ap (λ f. f a) are ∙ some), λ every a among. every a (sym (ap (λ f. f a) are) ∙ among))
-
--- an operation that is new, in time, and replies as it did or is pending, may come next
-pub stands : (program : Program) (history : History) (listed : Listed) (keys next : Keys) (name : OpId) (o : Op)
-    (given : Option Bool) (stated : Bool) → IsBegun history name
-    → (listed name ≡ false) × ((b : OpId) → with_name listed name b ≡ true → EndedBefore history name b → ⊥)
-    → Some o ≡ op_at program name.thread name.index → given ≡ reply history name → stated ≡ reply_on o keys
-    → IfSome given (λ r. r ≡ stated) → next ≡ keys_after o keys → StandsNext program history listed keys name next
-stands program history listed keys next name o given stated begun due is given_is reply_is replies after = record {
-  begun = begun;
-  new = due.0;
-  in_time = due.1;
-  gives = rw (← is) (rw (← given_is, ← reply_is) replies, after);
-}

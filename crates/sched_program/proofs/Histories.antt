@@ -1,5 +1,5 @@
 -- What the limits of a program say of its operations, and of the histories of its runs.
-use Rattle.std.proofs.Common.{◌≡◌, ℕ, ◌<◌, ◌≤◌, List, length, All, Option, Some, None, IsSome, refl, subst, arith}
+use Rattle.std.proofs.Common.{◌≡◌, ℕ, ◌<◌, ◌≤◌, List, length, Option, Some, None, IsSome, refl, arith}
 use Rattle.std.specs.Prelude.{option_and_then, slice_get, slice_index_or}
 use Rattle.std.proofs.lemmas.Option.{slice_get_within, get_or_from_slice_get}
 use Rattle.sched_program.specs.declared.operation.Op.{Op}
@@ -12,16 +12,11 @@ module _ (p : Program) (limits : IsWithinLimits p) (t i : ℕ) where
   in_thread o None e h = absurd cc
   in_thread o (Some ops) e h =
       let at = slice_get_within p.threads t ops e in
-      let short : length ops ≤ 6 =
-      subst (λ os. length os ≤ 6) (get_or_from_slice_get p.threads t ops ops e) (limits.op_counts t ops at).1 in
+      let is = get_or_from_slice_get p.threads t ops ops e in
+      let short : length ops ≤ 6 = (rw is at (limits.op_counts t ops at)).1 in
       let within = slice_get_within ops i o h in
-      let keys =
-      subst (λ os. All (λ op. IsUserKey (key_of op)) os) (get_or_from_slice_get p.threads t ops ops e)
-      (limits.op_keys t ops at) in (
-        omega (arith, limits.thread_count),
-        omega arith,
-        subst (λ op. IsUserKey (key_of op)) (get_or_from_slice_get ops i o o h) (keys i o within),
-      )
+      let key = (rw is at (limits.op_keys t ops at)) i o within in
+      (omega (arith, limits.thread_count), omega arith, rw (get_or_from_slice_get ops i o o h) at key)
 
   -- an operation of a program has a small name and a user key
   pub op_limited : (o : Op) → op_at p t i ≡ Some o → (t < 4) × (i < 6) × IsUserKey (key_of o)

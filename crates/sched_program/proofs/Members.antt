@@ -1,5 +1,5 @@
 -- What the members of a program's text are, and are not.
-use Rattle.std.proofs.Common.{◌≡◌, ◌≢◌, ℕ, ◌≤◌, List, [], ◌∷◌, ◌++◌, length, map, arith, subst, refl, sym, ap, ◌∙◌, All}
+use Rattle.std.proofs.Common.{◌≡◌, ◌≢◌, ℕ, ◌≤◌, List, [], ◌∷◌, ◌++◌, length, map, arith, sym, ap, ◌∙◌, All}
 use Rattle.std.proofs.Common.{AllPairs, Bool, Option, true, false, MatchBool, codes}
 use Rattle.std.proofs.lemmas.List.Sums.{sum-map}
 use Rattle.std.specs.List.{AllByRecursion}
@@ -29,29 +29,16 @@ keys_bounded_within value bounded =
 pub same_key : (value : Data) (a b : ℕ) → IsKey value a → IsKey value b → a ≡ b
 same_key value a b is also = let e : number (unsigned a) ≡ number (unsigned b) = sym is.0 ∙ also.0 in cc
 
--- a list of keys that are not distinct is no list of distinct keys
-pub twice : (value : Data) (keys : List ℕ) → IsListOf IsKey value keys → ¬ AllPairs (λ a b. a ≢ b) keys
-    → ¬ IsListOfDistinctKeys value
-twice value keys list not other =
-    not (subst (λ k. AllPairs (λ a b. a ≢ b) k) (same_list IsKey same_key value other.0 keys other.1 list) other.2)
-
 -- a list has one number of items
 pub same_counted : (value : Data) (a b : ℕ) → IsListOfCount value a → IsListOfCount value b → a ≡ b
 same_counted value a b is also = sym is.2 ∙ ap item_count (same_items value is.0 also.0 is.1 also.1) ∙ also.2
-
--- counts that are not permitted are those of no permitted ones
-pub no_op_counts : (value : Data) (counts : List ℕ) → IsListOf IsListOfCount value counts → ¬ AreOpCounts counts
-    → ¬ HasOpCounts value
-no_op_counts value counts list not other =
-    not (subst AreOpCounts (same_list IsListOfCount same_counted value other.0 counts other.1 list) other.2)
 
 -- the lengths of threads are the counts of their list
 pub thread_counts : (value : Data) (threads : List (List Op)) → IsListOf (IsListOf IsOp) value threads
     → HasOpCounts value → AreOpCounts (map length threads)
 thread_counts value threads list counts =
     let lengths = list_map (IsListOf IsOp) IsListOfCount length (list_counted IsOp) value threads list in
-    subst AreOpCounts (same_list IsListOfCount same_counted value counts.0 (map length threads) counts.1 lengths)
-    counts.2
+    rw (same_list IsListOfCount same_counted value counts.0 (map length threads) counts.1 lengths) at counts.2
 
 pub within : {A : Type 0} (StandsFor : Data → A → Type 0) (value : Data) (xs : List A) (least most : ℕ)
     → IsListOf StandsFor value xs → IsListWithin least most value → (least ≤ length xs) × (length xs ≤ most)
@@ -59,33 +46,18 @@ within StandsFor value xs least most list bounded =
     let same : length xs ≡ bounded.0 = same_count StandsFor value xs bounded.0 list bounded.1 in
     (omega (arith, same, bounded.2, bounded.3), omega (arith, same, bounded.2, bounded.3))
 
-word_same : (word : OpWord) (key : ℕ) → word_of (op_of word key) ≡ word
-word_same Insert key = refl
-word_same word key = refl
-
-key_same : (word : OpWord) (key : ℕ) → key_of (op_of word key) ≡ key
-key_same Insert key = refl
-key_same word key = refl
-
 -- a word and a key are an operation
 pub op_joined : (value : Data) (word : OpWord) (key : ℕ) → HasWord value word → HasKey value key
     → (op : Op) × IsOp value op
-op_joined value word key has also = (
-  op_of word key,
-  record {
-    word = subst (HasWord value) (sym (word_same word key)) has;
-    key = subst (HasKey value) (sym (key_same word key)) also;
-  },
-)
+op_joined value Insert key has also = (op_of Insert key, record { word = has; key = also })
+op_joined value word key has also = (op_of word key, record { word = has; key = also })
 
 -- where there are words but no operations, there are no keys
 pub no_keys : (value : Data) → HasWords value → ((threads : List (List Op)) → ¬ IsListOf (IsListOf IsOp) value threads)
     → ¬ HasKeys value
 no_keys value words none keys =
-    let found =
-    list_both (IsListOf HasWord) (IsListOf HasKey) (IsListOf IsOp) (list_both HasWord HasKey IsOp op_joined) value
-    words.0 keys.0 words.1 keys.1 in
-    none found.0 found.1
+    let each = list_both HasWord HasKey IsOp op_joined in
+    let found = list_both _ _ (IsListOf IsOp) each value words.0 keys.0 words.1 keys.1 in none found.0 found.1
 
 -- one more of a list
 pub one_more : {A : Type 0} (P : A → Type 0) (xs : List A) (x : A) → AllByRecursion P xs → P x
@@ -98,14 +70,16 @@ pub counts_fit : (value : Data) (counts : List ℕ) (fit : Bool) → IsListOf Is
     → MatchBool fit (AreOpCounts counts) (¬ AreOpCounts counts)
     → MatchBool fit (HasOpCounts value) (¬ HasOpCounts value)
 counts_fit value counts true list are = (counts, list, are)
-counts_fit value counts false list are = no_op_counts value counts list are
+counts_fit value counts false list are =
+    λ has. are (rw (same_list IsListOfCount same_counted value has.0 counts has.1 list) at has.2)
 
 -- where keys are not distinct, the member is no list of distinct keys
 pub not_distinct : (value : Data) (keys : List ℕ)
     → HasMember (codes "initial") (λ member. IsListOf IsKey member keys) value → ¬ AllPairs (λ a b. a ≢ b) keys
     → ¬ HasMember (codes "initial") IsListOfDistinctKeys value
 not_distinct value keys has not other =
-    twice has.0 keys has.2 not (of_member IsListOfDistinctKeys (codes "initial") value has.0 (sym has.1) other)
+    let found = of_member IsListOfDistinctKeys (codes "initial") value has.0 (sym has.1) other in
+    not (rw (same_list IsKey same_key has.0 found.0 keys found.1 has.2) at found.2)
 
 -- threads of permitted numbers of operations pass each test of theirs
 pub threads_pass : (value : Data) (threads : List (List Op)) → HasThreads value threads → 1 ≤ length threads
@@ -115,11 +89,9 @@ threads_pass value threads has some bounded counts =
     let count = list_counted (IsListOf IsOp) has.0 threads has.2 in
     let lengths = list_map (IsListOf IsOp) IsListOfCount length (list_counted IsOp) has.0 threads has.2 in
     let words =
-    list_map (IsListOf IsOp) (IsListOf HasWord) (map word_of) (list_map IsOp HasWord word_of (λ v op is. is.word))
-    has.0 threads has.2 in
+    list_map _ (IsListOf HasWord) (map word_of) (list_map IsOp HasWord word_of (λ v op is. is.word)) has.0 _ has.2 in
     let keys =
-    list_map (IsListOf IsOp) (IsListOf HasKey) (map key_of) (list_map IsOp HasKey key_of (λ v op is. is.key)) has.0
-    threads has.2 in (
+    list_map _ (IsListOf HasKey) (map key_of) (list_map IsOp HasKey key_of (λ v op is. is.key)) has.0 _ has.2 in (
       (has.0, has.1, (length threads, count, some, bounded)),
       (has.0, has.1, (map length threads, lengths, counts)),
       (has.0, has.1, (map (map word_of) threads, words)),
@@ -134,8 +106,8 @@ same_counts value version threads turns has also =
     of_member (λ member. IsListOf (IsListOf (HasTurn version)) member turns) (codes "threads") value has.0
     (sym has.1) also in
     same_list IsListOfCount same_counted has.0 (map length turns) (map length threads)
-    (list_map (IsListOf (HasTurn version)) IsListOfCount length (list_counted (HasTurn version)) has.0 turns there)
-    (list_map (IsListOf IsOp) IsListOfCount length (list_counted IsOp) has.0 threads has.2)
+    (list_map _ _ length (list_counted (HasTurn version)) has.0 turns there)
+    (list_map _ _ length (list_counted IsOp) has.0 threads has.2)
 
 -- what a value gives meets the limits of a program
 pub limits_met : (value : Data) (version : Version) (tree : Tree) (initial : List ℕ) (threads : List (List Op))
@@ -163,11 +135,6 @@ limits_met value version tree initial threads turns keys count distinct ops some
   turns = within;
 }
 
--- the keys of a list of few
-pub keys_bounded : (value : Data) (keys : List ℕ) → HasMember (codes "initial") (λ member. IsListOf IsKey member keys)
-    value → length keys ≤ 12 → HasMember (codes "initial") IsShortListOfKeys value
-keys_bounded value keys has bounded = (has.0, has.1, (keys, has.2, bounded))
-
 -- a value whose keys are few and distinct passes the tests before those of its threads
 pub passes_to_threads : (value : Data) (version : Version) (tree : Tree) (keys : List ℕ)
     → (members : Members) × (value ≡ object members) → HasVersion value version → HasTree value tree
@@ -175,6 +142,6 @@ pub passes_to_threads : (value : Data) (version : Version) (tree : Tree) (keys :
     → AllPairs (λ a b. a ≢ b) keys → (more : List ProgramFault) → AllByRecursion (Passes value) more
     → AllByRecursion (Passes value) (earlier fault.Threads ++ more)
 passes_to_threads value version tree keys is of_version of_tree has bounded distinct more all =
-    let initial : Passes value fault.Initial = keys_bounded value keys has bounded in
+    let initial : Passes value fault.Initial = (has.0, has.1, (keys, has.2, bounded)) in
     let twice : Passes value fault.InitialTwice = (has.0, has.1, (keys, has.2, distinct)) in
     (is, ((version, of_version), ((tree, of_tree), (initial, (twice, all)))))

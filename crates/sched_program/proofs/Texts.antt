@@ -19,7 +19,6 @@ use Rattle.sched_program.specs.declared.reader.OpWord.{OpWord}
 use Rattle.sched_program.specs.declared.reader.OpWord.TheVariants.{Insert, Delete, Find}
 use Rattle.sched_program.specs.declared.fault.ProgramFault.{ProgramFault}
 use Rattle.sched_program.specs.declared.fault.ProgramFault.TheVariants as fault
-use Rattle.sched_program.specs.Laws.Operations.{same_turn}
 use Rattle.sched_program.specs.Program.{Program, key_of}
 use Rattle.sched_program.specs.Text.{IsListOf, IsKey, IsOp, IsTurn, HasThreads, HasTurn, HasTurns, HasVersion}
 use Rattle.sched_program.specs.Text.{version_number, op_of, word_of, word_text, tree_name, IsTextOf, IsJsonOf}
@@ -56,13 +55,9 @@ op_pieces o = refl
 same_op : (value : Data) (a b : Op) → IsOp value a → IsOp value b → a ≡ b
 same_op value a b is also =
     let word : word_of a ≡ word_of b =
-    same_word_text (word_of a) (word_of b)
-    (same_text (codes "op") value (word_text (word_of a)) (word_text (word_of b)) is.word also.word) in
-    let key : key_of a ≡ key_of b =
-    same_member IsKey (codes "key") same_key value (key_of a) (key_of b) is.key also.key in
-    let one = op_pieces a in
-    let other = op_pieces b in
-    cc
+    same_word_text (word_of a) (word_of b) (same_text (codes "op") value _ _ is.word also.word) in
+    let key : key_of a ≡ key_of b = same_member IsKey (codes "key") same_key value _ _ is.key also.key in
+    cc (op_pieces a, op_pieces b)
 
 pub same_threads : (value : Data) (a b : List (List Op)) → HasThreads value a → HasThreads value b → a ≡ b
 same_threads =
@@ -77,8 +72,7 @@ pub same_version : (value : Data) (a b : Version) → HasVersion value a → Has
 same_version value a b is also =
     let e : number (unsigned (version_number a)) ≡ number (unsigned (version_number b)) =
     same_Some _ _ (sym is ∙ also) in
-    let number : version_number a ≡ version_number b = cc in
-    same_number a b number
+    same_number a b (cc)
 
 -- a value is one turn at most
 same_as_turn : (value : Data) (a b : Turn) → IsTurn value a → IsTurn value b → a ≡ b
@@ -87,7 +81,7 @@ same_as_turn value a b is also =
     ≡ array (item (number (unsigned b.thread)) (item (number (unsigned b.count)) no_items)) = sym is ∙ also in
     let thread : a.thread ≡ b.thread = cc in
     let count : a.count ≡ b.count = cc in
-    same_turn a.thread b.thread a.count b.count thread count
+    λ j. record { thread = thread j; count = count j }
 
 same_wait : (version : Version) (value : Data) (a b : Option Turn) → HasTurn version value a → HasTurn version value b
     → a ≡ b
@@ -104,28 +98,17 @@ same_turns version =
     same_member (IsListOf (IsListOf (HasTurn version))) (codes "threads")
     (same_list (IsListOf (HasTurn version)) (same_list (HasTurn version) (same_wait version)))
 
-same_fields : (a b : Tree) (ks ls : List ℕ) (xs ys : List (List Op)) (us vs : List (List (Option Turn))) → a ≡ b
-    → ks ≡ ls → xs ≡ ys → us ≡ vs
-    → (let p : Program = record { tree = a; initial = ks; threads = xs; turns = us } in p)
-    ≡ record { tree = b; initial = ls; threads = ys; turns = vs }
-same_fields a b ks ls xs ys us vs e f g h = rw (e, f, g, h)
-
 -- a value is the text of one program at most
 pub same_program : (value : Data) (p q : Program) → IsTextOf value p → IsTextOf value q → p ≡ q
 same_program value p q is also =
-    let tree : p.tree ≡ q.tree =
-    same_tree_name p.tree q.tree
-    (same_text (codes "tree") value (tree_name p.tree) (tree_name q.tree) is.tree also.tree) in
-    let initial : p.initial ≡ q.initial =
+    let tree = same_tree_name p.tree q.tree (same_text (codes "tree") value _ _ is.tree also.tree) in
+    let initial =
     same_member (IsListOf IsKey) (codes "initial") (same_list IsKey same_key) value p.initial q.initial is.initial
     also.initial in
-    let threads : p.threads ≡ q.threads = same_threads value p.threads q.threads is.threads also.threads in
-    let version : also.version ≡ is.version =
-    same_version value also.version is.version also.has_version is.has_version in
-    let turns : p.turns ≡ q.turns =
-    same_turns is.version value p.turns q.turns is.turns
-    (subst (λ v. HasTurns v value q.turns) version also.turns) in
-    same_fields p.tree q.tree p.initial q.initial p.threads q.threads p.turns q.turns tree initial threads turns
+    let threads = same_threads value p.threads q.threads is.threads also.threads in
+    let version = same_version value is.version also.version is.has_version also.has_version in
+    let turns = same_turns also.version value p.turns q.turns (rw version at is.turns) also.turns in
+    λ j. record { tree = tree j; initial = initial j; threads = threads j; turns = turns j }
 
 -- what has a member is an object
 has_members : (name : List ℕ) (value member : Data) → get name value ≡ Some member → (members : Members)

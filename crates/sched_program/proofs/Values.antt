@@ -1,6 +1,6 @@
 -- Lists of values that stand for things, value by value.
 use Rattle.std.proofs.Common.{◌≡◌, ℕ, zero, suc, ◌+◌, ◌<◌, List, [], ◌∷◌, ◌++◌, length, map, get_or, take, arith, subst}
-use Rattle.std.proofs.Common.{sym, refl, ap, ap₂, ◌∙◌, Some, All}
+use Rattle.std.proofs.Common.{sym, refl, ap, ◌∙◌, Some, All}
 use Rattle.std.proofs.lemmas.Option.{same_Some}
 use Rattle.std.proofs.lemmas.List.{take_more}
 use Rattle.std.proofs.lemmas.List.Elements.{All-cons, All-nil}
@@ -44,9 +44,7 @@ module _ {A : Type 0} (StandsFor : Data → A → Type 0) where
       → StandsFor (view value) x
       → Each StandsFor (items_view (take (i + 1) values)) ys
   Each-more values xs ys i value x below is pushed all here =
-      rw (pushed, take_more values i value below)
-      (subst (λ v. Each StandsFor (items_view (take i values ++ v ∷ [])) (xs ++ x ∷ [])) is
-      (Each-push (take i values) xs value x all here))
+      rw (pushed, take_more values i value below, ← is) (Each-push (take i values) xs value x all here)
 
   -- each value stands for something
   Each-at : (values : List Value) (xs : List A) (i : ℕ) (d : Value) → i < length values
@@ -92,14 +90,13 @@ module _ {A : Type 0} (StandsFor : Data → A → Type 0) where
   Each-same one no_items [] (y ∷ ys) all also = absurd also
   Each-same one (item value values) (x ∷ xs) [] all also = absurd also
   Each-same one (item value values) (x ∷ xs) (y ∷ ys) all also =
-      ap₂ ◌∷◌ (one value x y all.0 also.0) (Each-same one values xs ys all.1 also.1)
+      rw (one value x y all.0 also.0, Each-same one values xs ys all.1 also.1)
   Each-same one values xs ys all also = absurd all
 
   pub same_list : ((value : Data) (x y : A) → StandsFor value x → StandsFor value y → x ≡ y)
       → (value : Data) (xs ys : List A) → IsListOf StandsFor value xs → IsListOf StandsFor value ys → xs ≡ ys
   same_list one value xs ys list also =
-      Each-same one list.0 xs ys list.2
-      (subst (λ values. Each StandsFor values ys) (same_items value also.0 list.0 also.1 list.1) also.2)
+      Each-same one list.0 xs ys list.2 (rw (same_items value also.0 list.0 also.1 list.1) at also.2)
 
   pub same_member : (name : List ℕ) → ((value : Data) (x y : A) → StandsFor value x → StandsFor value y → x ≡ y)
       → (value : Data) (x y : A) → HasMember name (λ v. StandsFor v x) value → HasMember name (λ v. StandsFor v y) value
@@ -134,7 +131,5 @@ module _ {A B C : Type 0} (One : Data → A → Type 0) (Other : Data → B → 
   pub list_both : (value : Data) (xs : List A) (ys : List B) → IsListOf One value xs → IsListOf Other value ys
       → (zs : List C) × IsListOf Whole value zs
   list_both value xs ys list also =
-      let all =
-      Each-both list.0 xs ys list.2
-      (subst (λ values. Each Other values ys) (same_items value also.0 list.0 also.1 list.1) also.2) in
+      let all = Each-both list.0 xs ys list.2 (rw (same_items value also.0 list.0 also.1 list.1) at also.2) in
       (all.0, (list.0, list.1, all.1))

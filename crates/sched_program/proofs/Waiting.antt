@@ -1,5 +1,5 @@
 -- What the operations of a text wait for, and where that is not within the limits.
-use Rattle.std.proofs.Common.{◌≡◌, ℕ, zero, suc, ◌<◌, ◌≤◌, List, [], ◌∷◌, length, get_or, slice_get, arith, subst, sym}
+use Rattle.std.proofs.Common.{◌≡◌, ℕ, zero, suc, ◌<◌, ◌≤◌, List, [], ◌∷◌, length, get_or, slice_get, arith, sym}
 use Rattle.std.proofs.Common.{ap, ◌∙◌, Option, Some, None, IfSome, IfNone, Result, Ok, IfOk, All, codes}
 use Rattle.std.proofs.lemmas.Option.{same_Some, slice_get_within, get_or_from_slice_get}
 use Rattle.std.proofs.lemmas.List.{get_or_default}
@@ -28,17 +28,14 @@ module _ (value : Data) (version : Version) (threads : List (List Op)) (of_versi
   pub nowhere_within : ((turns : List (List (Option Turn))) → HasTurns version value turns
       → ¬ AreTurnsWithin threads turns) → ¬ HasTurnsWithin value
   nowhere_within none (other, ops, turns, of_other, has_ops, has_turns, within) =
-      none turns
-      (subst (λ v. HasTurns v value turns) (same_version value other version of_other of_version) has_turns)
-      (subst (λ xs. AreTurnsWithin xs turns) (same_threads value ops threads has_ops has) within)
+      none turns (rw (same_version value other version of_other of_version) at has_turns)
+      (rw (same_threads value ops threads has_ops has) at within)
 
   -- turns that are not within the limits
   pub not_within : (turns : List (List (Option Turn))) → HasTurns version value turns → ¬ AreTurnsWithin threads turns
       → ¬ HasTurnsWithin value
   not_within turns are not =
-      nowhere_within
-      (λ others also within. not
-      (subst (AreTurnsWithin threads) (same_turns version value others turns also are) within))
+      nowhere_within (λ others also within. not (rw (same_turns version value others turns also are) at within))
 
 -- where the member with the threads is no list of turns, the value has none
 pub none_listed : {Refusal : Type 0} (version known : Version) (value threads : Data)
@@ -51,7 +48,7 @@ pub none_listed : {Refusal : Type 0} (version known : Version) (value threads : 
 none_listed version known value threads (Ok None) is at none =
     λ turns has. none turns
     (of_member (λ member. IsListOf (IsListOf (HasTurn known)) member turns) (codes "threads") value threads at
-    (subst (λ v. HasTurns v value turns) is has))
+    (rw is at has))
 none_listed version known value threads answer is at none = tt
 
 -- where the member with the threads is a list of turns, these are the value's
@@ -61,7 +58,7 @@ pub listed : {Refusal : Type 0} (version known : Version) (value threads : Data)
     → IfOk answer (λ found. IfSome found (IsListOf (IsListOf (HasTurn known)) threads))
     → IfOk answer (λ found. IfSome found (HasTurns version value))
 listed version known value threads (Ok (Some x)) is at found =
-    subst (λ v. HasTurns v value x) (sym is) (threads, sym at, found)
+    rw is (threads, sym at, found)
 listed version known value threads answer is at found = tt
 
 -- a thread's row is as that thread may wait
@@ -69,8 +66,7 @@ row_within : (threads : List (List Op)) (turns : List (List (Option Turn))) (t :
     → AreTurnsWithin threads turns → slice_get turns t ≡ Some row
     → All (λ turn. IfSome turn (IsTurnWithin threads t)) row
 row_within threads turns t row within at =
-    subst (λ r. All (λ turn. IfSome turn (IsTurnWithin threads t)) r) (get_or_from_slice_get turns t row [] at)
-    (within t)
+    rw (get_or_from_slice_get turns t row [] at) at (within t)
 
 ops_bounded : (threads : List (List Op)) (k : ℕ) → All (λ ops. (1 ≤ length ops) × (length ops ≤ 6)) threads
     → length (get_or threads k []) ≤ 6
@@ -85,8 +81,7 @@ pub small_turn : (threads : List (List Op)) (turns : List (List (Option Turn))) 
 small_turn threads turns t i row turn counts within at_t at_i =
     let all = row_within threads turns t row within at_t in
     let is : IsTurnWithin threads t turn =
-    subst (λ wait. IfSome wait (IsTurnWithin threads t)) (get_or_from_slice_get row i (Some turn) None at_i)
-    (all i None (slice_get_within row i (Some turn) at_i)) in
+    rw (get_or_from_slice_get row i (Some turn) None at_i) at (all i None (slice_get_within row i (Some turn) at_i)) in
     (is.lower, omega (arith, is.bounded, ops_bounded threads turn.thread counts))
 
 -- each turn of a row at its place is within the limits
@@ -94,5 +89,4 @@ pub row_at : (threads : List (List Op)) (turns : List (List (Option Turn))) (t :
     → t < length turns → row ≡ get_or turns t row → AreTurnsWithin threads turns
     → All (λ turn. IfSome turn (IsTurnWithin threads t)) row
 row_at threads turns t row below at within =
-    subst (λ r. All (λ turn. IfSome turn (IsTurnWithin threads t)) r) (get_or_default turns t [] row below ∙ sym at)
-    (within t)
+    rw (get_or_default turns t [] row below, ← at) at (within t)

@@ -27,22 +27,16 @@ pub one_more_worker : (page : List ℕ) (shares : List Share) (i : ℕ) (s : Sha
     → (page ++ workers_text 1 (take i shares)) ++ worker_text (i + 1) (get_or shares i s) ≡ page
     ++ workers_text 1 (take (i + 1) shares)
 one_more_worker page shares i s h =
-    let taken : length (take i shares) ≡ i = length-take-le i shares (omega arith) in
-    let more : workers_text 1 (take (i + 1) shares) ≡ workers_text 1 (take i shares)
-    ++ worker_text (i + 1) (get_or shares i s) =
-    ap (workers_text 1) (take_more shares i s h) ∙ workers_text-push 1 (take i shares) (get_or shares i s)
-    ∙ ap (λ (n : ℕ). workers_text 1 (take i shares) ++ worker_text n (get_or shares i s)) (omega arith) in
-    append_assoc page (workers_text 1 (take i shares)) (worker_text (i + 1) (get_or shares i s))
-    ∙ sym (ap (λ l. page ++ l) more)
+    let taken : 1 + length (take i shares) ≡ i + 1 = omega (arith, length-take-le i shares (omega arith)) in
+    rw (take_more shares i s h, workers_text-push 1 (take i shares) (get_or shares i s), taken)
+    (append_assoc page (workers_text 1 (take i shares)) (worker_text (i + 1) (get_or shares i s)))
 
 -- a report is the answer, and then the ledger where it is asked for
 pub with_ledger : (old printed new : List ℕ) (answer : Answer) (totals : Totals) (given shares : List Share)
     (asked : Bool) → asked ≡ true → given ≡ shares → printed ≡ old ++ answer_text totals.entries answer
     → new ≡ printed ++ ledger_text given totals → new ≡ old ++ report_text asked answer totals shares
 with_ledger old printed new answer totals given shares true is same answered more =
-    more ∙ ap (λ (l : List Share). printed ++ ledger_text l totals) same
-    ∙ ap (λ (l : List ℕ). l ++ ledger_text shares totals) answered
-    ∙ append_assoc old (answer_text totals.entries answer) (ledger_text shares totals)
+    rw (more, same, answered) (append_assoc old (answer_text totals.entries answer) (ledger_text shares totals))
 with_ledger old printed new answer totals given shares false is same answered more = absurd (cc)
 
 pub without_ledger : (old new : List ℕ) (answer : Answer) (totals : Totals) (shares : List Share) (asked : Bool)
@@ -50,16 +44,15 @@ pub without_ledger : (old new : List ℕ) (answer : Answer) (totals : Totals) (s
     → new ≡ old ++ report_text asked answer totals shares
 without_ledger old new answer totals shares true is answered = absurd (cc)
 without_ledger old new answer totals shares false is answered =
-    answered ∙ ap (λ (l : List ℕ). old ++ l) (sym (append-nil (answer_text totals.entries answer)))
+    rw (append-nil (answer_text totals.entries answer)) answered
 
 -- the lines that are put on an empty page are all that is there
 pub on_empty : (page empty text : List ℕ) → page ≡ empty ++ text → empty ≡ [] → page ≡ text
-on_empty page empty text put none = put ∙ ap (λ (l : List ℕ). l ++ text) none
+on_empty page empty text put none = rw none at put
 
 pub both_on_empty : (empty middle page first shown second : List ℕ) → empty ≡ [] → middle ≡ empty ++ first
     → first ≡ shown → page ≡ middle ++ second → page ≡ shown ++ second
-both_on_empty empty middle page first shown second none put same more =
-    more ∙ ap (λ (l : List ℕ). l ++ second) (on_empty middle empty first put none ∙ same)
+both_on_empty empty middle page first shown second none put same more = rw (put, none, same) at more
 
 -- a page with another name for its status and for its text
 pub as_page : (status printed : ℕ) (text lines : List ℕ) (output : Output) → IsPage status text output → status

@@ -46,17 +46,14 @@ module _ (Machine Form : Type 0) {Memory Place : Type 0} (rules : Rules Memory P
       (λ output. IsReplayed Machine Form rules program schedule output
       ⊎ IsStuck Machine Form rules program schedule output)
   stuck f n is stops r printed =
-      let here : StopsAt (machine_of {Machine = Machine} {Form = Form} rules program) schedule (NotEnabled n) =
-      subst (StopsAt (machine_of {Machine = Machine} {Form = Form} rules program) schedule) is stops in
-      let (i, (e, within)) =
-      stops_within (machine_of {Machine = Machine} {Form = Form} rules program) schedule n here in
+      let machine = machine_of {Machine = Machine} {Form = Form} rules program in
+      let here : StopsAt machine schedule (NotEnabled n) = rw is at stops in
+      let (i, (e, within)) = stops_within machine schedule n here in
       let place : n - 1 ≡ i = omega arith in
       IfOk-weaker r _ _ (λ output h. inr (record {
         before = i;
         thread = get_or schedule i 0;
-        stops = subst
-            (λ (k : ℕ). StopsAt (machine_of {Machine = Machine} {Form = Form} rules program) schedule (NotEnabled k)) e
-            here;
+        stops = subst (λ (k : ℕ). StopsAt machine schedule (NotEnabled k)) e here;
         is_next = slice_get-get_or schedule i 0 within;
         printed = subst (λ (k : ℕ). IsRefusal 4 (no_step_text k (get_or schedule i 0)) output) e
             (subst (λ (k : ℕ). IsRefusal 4 (no_step_text n (get_or schedule k 0)) output) place h);

@@ -1,21 +1,19 @@
 -- What clap's matches hold where it finds no fault: an argument that is set has a value, which its parser takes.
-use Rattle.std.proofs.Common.{◌≡◌, ◌∙◌, ◌&&◌, ◌||◌, ℕ, Bool, cond, true, false, not, refl, ap, subst, List, [], ◌∷◌}
-use Rattle.std.proofs.Common.{◌++◌, ◌+◌, min, length, Option, Some, None}
+use Rattle.std.proofs.Common.{◌≡◌, ◌∙◌, ◌&&◌, ◌||◌, ℕ, Bool, cond, true, false, not, refl, ap, List, [], ◌∷◌}
+use Rattle.std.proofs.Common.{◌++◌, ◌+◌, arith, min, length, Option, Some, None}
 use Rattle.std.specs.Prelude.{⊤, fold, find, slice_get}
 use Rattle.std.specs.List.{list_any}
 use Rattle.std.specs.Option.{option_map_or}
 use Rattle.std.specs.Str.{bytes_eq}
 use Rattle.std.proofs.lemmas.List.Folds.{list_any-append}
 use Rattle.clap.specs.Matches.{count_text}
-use Rattle.clap.proofs.SimpleLemmas.{is_nil}
+use Rattle.std.proofs.lemmas.Bool.Decides.{nat_tests}
 use Rattle.std.proofs.lemmas.Slice.Eq.{bytes_eq-Decides}
 use Rattle.clap.specs.Faults.{action_fault, default_fault, defaults_fault, given_default_fault, settle_fault, use_fault}
 use Rattle.clap.specs.Faults.{values_fault}
 use Rattle.clap.specs.Facts.{explicit_source, parser_of_value, unwrap_or_range}
 use Rattle.clap.specs.Kinds.{Kinds, or_else, range_kinds, request_kinds, value_kinds}
 use Rattle.clap.specs.Takes.{is_given, value_passes}
-use Rattle.clap.specs.Values.{refused_kind}
-use Rattle.clap.specs.ValueTests.{accepts}
 use Rattle.clap.specs.Walk.{Held, Row, Rule, Text, action_of, arg_by_id, at_row, count_of, counted, default_rows}
 use Rattle.clap.specs.Walk.{has_row, is_empty, more_values, most_values, new_count, reading_by, settled, settled_rows}
 use Rattle.clap.specs.Walk.{stronger, used, used_as, used_by_id, values_or_missing, with_count, with_default}
@@ -53,14 +51,11 @@ AreRegular c (a ∷ rest) = IsRegular c a × AreRegular c rest
 pub found : (c : List Rule) (p : Rule → Bool) (rules : List Rule) (a : Rule) → AreRegular c rules
     → find p rules ≡ Some a → IsRegular c a
 found c p [] a regular is = absurd (cc)
-found c p (x ∷ xs) a regular is = go (p x) refl (found c p xs a regular.1)
+found c p (x ∷ xs) a regular is = go (p x) is (found c p xs a regular.1)
   where
-    go : (b : Bool) → p x ≡ b → (find p xs ≡ Some a → IsRegular c a) → IsRegular c a
-    go true e rest =
-        let same : Some x ≡ Some a = rw e at is in
-        let one : x ≡ a = (cc) in
-        subst (IsRegular c) one regular.0
-    go false e rest = rest (rw e at is)
+    go : (b : Bool) → cond b (Some x) (find p xs) ≡ Some a → (find p xs ≡ Some a → IsRegular c a) → IsRegular c a
+    go true is rest = let one : x ≡ a = cc in rw (← one) regular.0
+    go false is rest = rest is
 
 -- ---- tests of kinds and flags
 
@@ -78,8 +73,7 @@ none_unless false k h = absurd (cc)
 
 first_passes : (a : Rule) (v : Text) (vs : List Text) → values_fault a (v ∷ vs) ≡ [] → value_passes a v ≡ true
 first_passes a v vs h =
-    none_unless (accepts a.ignore_case (parser_of_value a.parser) v) (refused_kind (parser_of_value a.parser))
-    (none_of (value_kinds a.ignore_case (parser_of_value a.parser) v) _ h).0
+    none_unless _ _ (none_of (value_kinds a.ignore_case (parser_of_value a.parser) v) _ h).0
 
 -- ---- a change of one row
 
@@ -107,9 +101,7 @@ first_stays (x ∷ xs) ys text is = is
 new_suits : (c : List Rule) (a : Rule) (r : Row) → arg_by_id c a.id ≡ Some a → r.id ≡ a.id
     → (action_of a ≡ action.Set → IsFilled a r) → Suits c r
 new_suits c a r own same filled b is set =
-    let two : arg_by_id c r.id ≡ Some a = ap (arg_by_id c) same ∙ own in
-    let one : a ≡ b = (cc) in
-    subst (λ x. IsFilled x r) one (filled (ap action_of one ∙ set))
+    let one : a ≡ b = cc in rw (← one) (filled (ap action_of one ∙ set))
 
 more_suits : (c : List Rule) (r : Row) (more : List Text) (count : Option ℕ) (source : Option ValueSource) → Suits c r
     → Suits c (record r { values = r.values ++ more; count = count; source = source })
@@ -163,38 +155,32 @@ module _ (c : List Rule) (again : Bool) (a : Rule) (regular : IsRegular c a) whe
       → BeginsWell c a regular.own (values_or_missing a values)
   set_begins [] rows set none =
       let range = (none_of (range_kinds (unwrap_or_range a.range).start_inclusive (most_values a) 0) _ none).0 in
-      let one = regular.valued set in
-      let bad = rw one at range in
-      absurd (cc)
+      let bad = rw (regular.valued set) at range in absurd (cc)
   set_begins (v ∷ vs) rows set none =
-      let acts =
-      (none_of (range_kinds (unwrap_or_range a.range).start_inclusive (most_values a) (length (v ∷ vs))) _
-      none).1 in
-      let acts_set : action_fault action.Set again a (v ∷ vs) rows ≡ [] =
-      subst (λ x. action_fault x again a (v ∷ vs) rows ≡ []) set acts in
-      (v, refl, first_passes a v vs (none_of _ (values_fault a (v ∷ vs)) acts_set).1)
+      let range = range_kinds (unwrap_or_range a.range).start_inclusive (most_values a) (length (v ∷ vs)) in
+      let acts : action_fault action.Set again a (v ∷ vs) rows ≡ [] = rw set at (none_of range _ none).1 in
+      (v, refl, first_passes a v vs (none_of _ (values_fault a (v ∷ vs)) acts).1)
+
+  -- a use that takes the place of the earlier ones
+  used_once : (values : List Text) (rows : List Row) → (action_of a ≡ action.Set → BeginsWell c a regular.own values)
+      → Suit c rows → Suit c (with_values a.id (reading_by a) CommandLine values (without a.id rows))
+  used_once values rows begins suit =
+      values_suit c a regular.own CommandLine values (without a.id rows) begins
+      (without_suits c a regular.own rows suit)
 
   counted_suits : (values : List Text) (rows : List Row) → (action_of a ≡ action.Set → ⊥) → Suit c rows
       → Suit c (counted a.id (reading_by a) values rows)
   counted_suits [] rows not_set suit =
       count_suits c a regular.own CommandLine (min (count_of a.id rows + 1) 255) (without a.id rows) not_set
       (without_suits c a regular.own rows suit)
-  counted_suits (v ∷ vs) rows not_set suit =
-      values_suit c a regular.own CommandLine (v ∷ vs) (without a.id rows) (λ set. absurd (not_set set))
-      (without_suits c a regular.own rows suit)
+  counted_suits (v ∷ vs) rows not_set suit = used_once (v ∷ vs) rows (λ set. absurd (not_set set)) suit
 
   used_as_suits : (x : ArgAction) → action_of a ≡ x → (values : List Text) (rows : List Row)
       → (x ≡ action.Set → BeginsWell c a regular.own values) → Suit c rows
       → Suit c (used_as x a.id (reading_by a) values rows)
-  used_as_suits action.Set is values rows value suit =
-      values_suit c a regular.own CommandLine values (without a.id rows) (λ set. value refl)
-      (without_suits c a regular.own rows suit)
-  used_as_suits action.SetTrue is values rows value suit =
-      values_suit c a regular.own CommandLine values (without a.id rows) (λ set. absurd (cc))
-      (without_suits c a regular.own rows suit)
-  used_as_suits action.SetFalse is values rows value suit =
-      values_suit c a regular.own CommandLine values (without a.id rows) (λ set. absurd (cc))
-      (without_suits c a regular.own rows suit)
+  used_as_suits action.Set is values rows value suit = used_once values rows (λ set. value refl) suit
+  used_as_suits action.SetTrue is values rows value suit = used_once values rows (λ set. absurd (cc)) suit
+  used_as_suits action.SetFalse is values rows value suit = used_once values rows (λ set. absurd (cc)) suit
   used_as_suits action.Append is values rows value suit =
       values_suit c a regular.own CommandLine values rows (λ set. absurd (cc)) suit
   used_as_suits action.Count is values rows value suit = counted_suits values rows (λ set. (cc)) suit
@@ -206,11 +192,7 @@ module _ (c : List Rule) (again : Bool) (a : Rule) (regular : IsRegular c a) whe
       used_as_suits (action_of a) refl (values_or_missing a values) rows (λ set. set_begins values rows set none) suit
 
 not_empty : (v : Text) (vs : List Text) → is_empty (v ∷ vs) ≡ false
-not_empty v vs = go (is_empty (v ∷ vs)) refl
-  where
-    go : (b : Bool) → is_empty (v ∷ vs) ≡ b → is_empty (v ∷ vs) ≡ false
-    go true e = let none = is_nil (v ∷ vs) e in absurd (cc)
-    go false e = e
+not_empty v vs = grind (arith, nat_tests)
 
 -- ---- what is pending, and the defaults
 
@@ -238,15 +220,9 @@ module _ (c : List Rule) (again : Bool) (regular : AreRegular c c) where
           → Suit c (default_rows a.id (reading_by a) values rows)
       given [] none = suit
       given (v ∷ vs) fault =
-          let some = not_empty v vs in
-          let none : given_default_fault a (v ∷ vs) ≡ [] = rw some at fault in
-          values_suit c a own.own DefaultValue (v ∷ vs) rows
-          (λ set. (
-            v,
-            refl,
-            first_passes a v vs
-                (none_of (request_kinds (action_of a)) (values_fault a (v ∷ vs)) none).1,
-          )) suit
+          let none : given_default_fault a (v ∷ vs) ≡ [] = rw (not_empty v vs) at fault in
+          let passes = first_passes a v vs (none_of (request_kinds (action_of a)) (values_fault a (v ∷ vs)) none).1 in
+          values_suit c a own.own DefaultValue (v ∷ vs) rows (λ set. (v, refl, passes)) suit
 
       go : (b : Bool) → cond (b || is_empty a.defaults) [] (given_default_fault a a.defaults) ≡ []
           → Suit c (cond b rows (default_rows a.id (reading_by a) a.defaults rows))
@@ -337,11 +313,8 @@ default_given i (a ∷ rest) rows has =
         → (has_default i rest ≡ true → has_row i (fold with_default (with_default rows a) rest) ≡ true)
         → has_row i (fold with_default (with_default rows a) rest) ≡ true
     go true false e some h later =
-        let same : a.id ≡ i = (bytes_eq-Decides a.id i).0 e in
-        defaults_keep i rest (with_default rows a)
-        (subst (λ id. has_row id (with_default rows a) ≡ true) same (default_made a rows some))
-    go true true e some h later = later h
-    go false d e some h later = later h
+        defaults_keep i rest (with_default rows a) (rw (← (bytes_eq-Decides a.id i).0 e) (default_made a rows some))
+    go b d e some h later = later h
 
 pub given_has_row : (i : Text) (rows : List Row) → is_given i rows ≡ true → has_row i rows ≡ true
 given_has_row i [] given = absurd (cc)
@@ -368,12 +341,11 @@ required_given rows (x ∷ xs) i a none is required =
         → (list_any (λ y. y.required && not (is_given y.id rows)) xs ≡ false → find (λ y. bytes_eq y.id i) xs ≡ Some a
         → is_given i rows ≡ true)
         → is_given i rows ≡ true
-    go true e true q true g h s rest = subst (λ id. is_given id rows ≡ true) ((bytes_eq-Decides x.id i).0 e) g
-    go true e true q false g h s rest = absurd (cc)
-    go true e false q g gs h s rest = let one : x ≡ a = (cc) in absurd (cc (ap (λ r. r.required) one))
-    go false e true q true g h s rest = rest h s
-    go false e true q false g h s rest = absurd (cc)
-    go false e false q g gs h s rest = rest h s
+    go true e q r true g h s rest = rw (← (bytes_eq-Decides x.id i).0 e) g
+    go b e true r false g h s rest = absurd (cc)
+    go true e false r false g h s rest = let one : x ≡ a = cc in absurd (cc (ap (λ r. r.required) one))
+    go false e true r true g h s rest = rest h s
+    go false e false r g d h s rest = rest h s
 
 -- the row of an argument that is set holds a value of it
 pub filled : (c : List Rule) (rows : List Row) (i : Text) (a : Rule) → Suit c rows → has_row i rows ≡ true

@@ -1,5 +1,5 @@
 -- What holds at the end of clap's walk over the words where it finds no fault on the way.
-use Rattle.std.proofs.Common.{◌≡◌, ◌&&◌, ℕ, Bool, cond, codes, true, false, not, refl, sym, subst, zero, suc, List, []}
+use Rattle.std.proofs.Common.{◌≡◌, ◌&&◌, ℕ, Bool, cond, codes, true, false, not, refl, zero, suc, List, []}
 use Rattle.std.proofs.Common.{◌∷◌, length, drop, Option, Some, None, is_some}
 use Rattle.std.specs.Prelude.{⊤, IfSome, encode_utf8, fold, slice_get}
 use Rattle.std.specs.Option.{option_map_or}
@@ -39,21 +39,18 @@ flag_rows c waiting word h out = plain_rows c waiting word h
 
 module _ (c : List Rule) (again : Bool) (regular : AreRegular c c) where
   react_suits : (a : Rule) → IsRegular c a → (values : List Text) (h : Held) → react_fault c again a values h ≡ []
-      → Suit c h.rows
-      → Suit c (reacted c a values h).rows
+      → Suit c h.rows → Suit c (reacted c a values h).rows
   react_suits a own values h none suit =
       let each = none_of (settle_fault c again h) (use_fault again a values (settled c h).rows) none in
       used_suits c again a own values (settled c h).rows each.1 (settled_suit c again regular h each.0 suit)
 
   option_suits : (a : Rule) → IsRegular c a → (v : Option Text) (h : Held) → option_fault c again a v h ≡ []
-      → Suit c h.rows
-      → Suit c (option_met c a v h).0.rows
+      → Suit c h.rows → Suit c (option_met c a v h).0.rows
   option_suits a own (Some v) h none suit = react_suits a own (v ∷ []) h none suit
   option_suits a own None h none suit = settled_suit c again regular h none suit
 
   long_suits : (o : Option Rule) → ((a : Rule) → o ≡ Some a → IsRegular c a) → (v : Option Text) (h : Held)
-      → long_fault c again o v h ≡ []
-      → Suit c h.rows → Suit c (long_met c o v h).0.rows
+      → long_fault c again o v h ≡ [] → Suit c h.rows → Suit c (long_met c o v h).0.rows
   long_suits None own v h none suit = suit
   long_suits (Some a) own v h none suit = go (takes_values a) v none
     where
@@ -80,43 +77,37 @@ module _ (c : List Rule) (again : Bool) (regular : AreRegular c c) where
           later (reacted c a [] h) each.1 (react_suits a (own a refl) [] h each.0 suit)
 
   flags_suit : (k : ℕ) (flags : Text) (skip : ℕ) (so_far : Outcome) (h : Held) → flags_fault c again k flags skip h ≡ []
-      → Suit c h.rows
-      → Suit c (bundle_met c k flags skip so_far h).0.rows
+      → Suit c h.rows → Suit c (bundle_met c k flags skip so_far h).0.rows
   unfolding flags_fault bundle_met
   flags_suit zero flags skip so_far h none suit = suit
-  flags_suit (suc k) flags skip so_far h none suit =
-      step (slice_get (chars flags) 0) skip none (flags_suit k)
+  flags_suit (suc k) flags skip so_far h none suit = step (slice_get (chars flags) 0) skip none (flags_suit k)
     where
       step : (o : Option ℕ) (skip : ℕ) → bundle_step_fault c again o flags skip h (flags_fault c again k) ≡ []
           → ((flags : Text) (skip : ℕ) (so_far : Outcome) (h : Held) → flags_fault c again k flags skip h ≡ []
-          → Suit c h.rows
-          → Suit c (bundle_met c k flags skip so_far h).0.rows)
+          → Suit c h.rows → Suit c (bundle_met c k flags skip so_far h).0.rows)
           → Suit c (bundle_step c o flags skip so_far h (bundle_met c k)).0.rows
       step None skip none later = suit
       step (Some x) zero none later =
           let rest = drop (length (encode_utf8 x)) flags in
           short_suits (arg_by_short c x) (λ a is. found c (λ r. not (is_some r.index) && has_short r x) c a regular is)
-          rest h
-          (flags_fault c again k rest 0) (bundle_met c k rest 0 done) (λ g n s. later rest 0 done g n s) none suit
+          rest h (flags_fault c again k rest 0) (bundle_met c k rest 0 done)
+          (λ g n s. later rest 0 done g n s) none suit
       step (Some x) (suc skip) none later = later (drop (length (encode_utf8 x)) flags) skip so_far h none suit
 
   -- a word that is no subcommand and no `--`
   other_suits : (o : Option (Text × Option Text)) (waiting : Waiting) (word : Text) (h : Held)
-      → flag_word_fault c again o word h ≡ []
-      → Suit c h.rows → Suit c (long_or_other c waiting word o h).0.rows
+      → flag_word_fault c again o word h ≡ [] → Suit c h.rows → Suit c (long_or_other c waiting word o h).0.rows
   other_suits (Some p) waiting word h none suit =
-      let met = long_met c (arg_by_long c p.0) p.1 h in
-      subst (Suit c) (sym (flag_rows c waiting word met.0 met.1))
+      rw (flag_rows c waiting word (long_met c (arg_by_long c p.0) p.1 h).0)
       (long_suits (arg_by_long c p.0) (λ a is. found c (λ r. not (is_some r.index) && has_long r p.0) c a regular is)
       p.1 h none suit)
   other_suits None waiting word h none suit = go (short_of word) none
     where
       go : (o : Option Text) → option_map_or (λ flags. bundle_fault c again flags h) o [] ≡ []
           → Suit c (short_or_plain c waiting word o h).0.rows
-      go None none = subst (Suit c) (sym (plain_rows c waiting word h)) suit
+      go None none = rw (plain_rows c waiting word h) suit
       go (Some flags) none =
-          let met = bundle c flags h in
-          subst (Suit c) (sym (flag_rows c waiting word met.0 met.1))
+          rw (flag_rows c waiting word (bundle c flags h).0)
           (flags_suit (length flags) flags h.skip plain (record h { skip = 0 }) none suit)
 
 -- ---- what is no subcommand
@@ -139,13 +130,12 @@ module _ (p : Text → Bool) (c : List Rule) where
 
   other_step : (o : Option (Text × Option Text)) (waiting : Waiting) (word : Text) (h : Held)
       → StepPasses p (long_or_other c waiting word o h).1
-  other_step (Some q) waiting word h =
-      flag_step waiting word (long_met c (arg_by_long c q.0) q.1 h).0 (long_met c (arg_by_long c q.0) q.1 h).1
+  other_step (Some q) waiting word h = flag_step waiting word _ (long_met c (arg_by_long c q.0) q.1 h).1
   other_step None waiting word h = go (short_of word)
     where
       go : (o : Option Text) → StepPasses p (short_or_plain c waiting word o h).1
       go None = plain_step waiting word h
-      go (Some flags) = flag_step waiting word (bundle c flags h).0 (bundle c flags h).1
+      go (Some flags) = flag_step waiting word _ (bundle c flags h).1
 
 -- ---- the walk
 
@@ -216,14 +206,11 @@ module _ (s : Shape) (regular : AreRegular s.rules s.rules) where
           (word_met s.rules names w.is_trailing w.waiting w.position word w.held).1)) ≡ []
           → Stands (walked_from s.rules names o w word)
       go (Some q) is none =
-          let was : IfSome (Some q) (λ q. is_help s q.0 ≡ false) =
-          subst (λ o. IfSome o (λ q. is_help s q.0 ≡ false)) is stands.stopped in
+          let was : IfSome (Some q) (λ q. is_help s q.0 ≡ false) = rw is at stands.stopped in
           record { rows = stands.rows; stopped = was }
       go None is none =
           let met = word_met s.rules names w.is_trailing w.waiting w.position word w.held in
-          let each =
-          none_of (word_fault s names w.is_trailing w.waiting word w.held) (step_fault s w.position met.0 met.1)
-          none in
+          let each = none_of (word_fault s names w.is_trailing w.waiting word w.held) _ none in
           let m = before w.is_trailing each.0 in
           step_stands w word is met.0 met.1 each.1 m.rows m.step
 

@@ -1,7 +1,7 @@
 -- The subcommand that the words name where clap finds no fault in them, and what its matches hold.
-use Rattle.std.proofs.Common.{◌≡◌, ◌∙◌, ◌&&◌, ◌||◌, ◌⊎◌, ◌≤◌, ℕ, Bool, cond, codes, true, false, refl, sym, ap, subst}
-use Rattle.std.proofs.Common.{arith, slice_index, inl, inr, List, [], ◌∷◌, Option, Some, None, is_some}
-use Rattle.std.specs.Prelude.{IfSome, option_map, unwrap_or}
+use Rattle.std.proofs.Common.{◌≡◌, ◌∙◌, ◌&&◌, ◌||◌, ◌⊎◌, ◌≤◌, ℕ, Bool, cond, codes, true, false, refl, sym, ap}
+use Rattle.std.proofs.Common.{inl, inr, List, [], ◌∷◌, Option, Some, None, is_some}
+use Rattle.std.specs.Prelude.{IfSome, option_map}
 use Rattle.std.specs.Option.{option_map_or}
 use Rattle.std.specs.Str.{bytes_eq}
 use Rattle.std.specs.Str.Parse.{digits_value, without_leading_plus}
@@ -10,13 +10,12 @@ use Rattle.clap.specs.Facts.{unwrap_or_range}
 use Rattle.clap.specs.Faults.{entered_fault, fault_of, level_fault}
 use Rattle.clap.specs.Simple.{App, Shape, argument_words, built, built_leaf, entered, help_shape, inherited}
 use Rattle.clap.specs.Simple.{marked_built, names_of, rows_at, subcommand_of, with_leaf_noted}
-use Rattle.clap.specs.Values.{Accepts}
 use Rattle.clap.specs.ValueTests.{accepts}
 use Rattle.clap.specs.declared.builder.action.ArgAction.TheVariants.{Set}
 use Rattle.std.specs.List.{list_any}
 use Rattle.clap.proofs.WalkLemmas.{list_any-map}
 use Rattle.clap.proofs.ValueTestLemmas.{accepts-Accepts}
-use Rattle.clap.specs.Walk.{Row, Rule, Text, action_of, arg_by_id, nothing_held, one_of, rows_after, walk}
+use Rattle.clap.specs.Walk.{Row, Rule, Text, action_of, arg_by_id, nothing_held, rows_after, walk}
 use Rattle.clap.specs.declared.builder.value_parser.ValueParser.TheVariants.{Names, Unsigned}
 use Rattle.options.specs.declared.options.Merge.{Merge}
 use Rattle.options.specs.declared.options.Merge.TheVariants as merge
@@ -24,9 +23,45 @@ use Rattle.options.specs.Settings.{Settings}
 use Rattle.words.specs.Command as line
 use Rattle.words.specs.Command.{AreMerges, Choices, command_line}
 use Rattle.words.specs.Reading.{AreRead, HasText, MergeIs, NumberIs, OptionsAre}
-use Rattle.words.proofs.Accepted.{AreRegular, IsRegular}
+use Rattle.words.proofs.Accepted.{AreRegular, IsRegular, has_default}
 use Rattle.words.proofs.Entered.{is_help}
 use Rattle.words.proofs.Subcommands.{HasValue, below_passed, default_value, no_help, required_value}
+
+-- the words after the subcommand's name have no fault, and its matches are these
+pub record IsPassed (s : Shape) (name : Text) (rows : List Row) : Type 0 where
+  pub words : List Text
+  pub named : name ≡ s.name
+  pub are : rows ≡ rows_after s.rules [] words
+  pub none : level_fault s [] nothing_held words false [] ≡ []
+
+passed : (s : Shape) (words : List Text) (name : Text) (rows : List Row) → Some (rows_at s words) ≡ Some (name, rows)
+    → level_fault s [] nothing_held words false [] ≡ [] → IsPassed s name rows
+passed s words name rows is none =
+    let same : rows_at s words ≡ (name, rows) = cc in
+    record { words = words; named = sym (ap (λ p. p.0) same); are = sym (ap (λ p. p.1) same); none = none }
+
+-- what the matches of such a subcommand hold
+module _ {s : Shape} {name : Text} {rows : List Row} (is : IsPassed s name rows) (regular : AreRegular s.rules s.rules)
+    (id : Text) (a : Rule) (found : arg_by_id s.rules id ≡ Some a) (set : action_of a ≡ Set) where
+  required : s.subcommand_negates_reqs ≡ false → a.required ≡ true → HasValue a id rows
+  required kept needed =
+      rw is.are (required_value s [] is.words false [] is.none regular kept id a found set needed)
+
+  defaulted : has_default id s.rules ≡ true → HasValue a id rows
+  defaulted default = rw is.are (default_value s [] is.words false [] is.none regular id a found set default)
+
+  text : s.subcommand_negates_reqs ≡ false → a.required ≡ true → HasText rows id
+  text kept needed = let v = required kept needed in (v.text, v.first)
+
+number : (low high : ℕ) (a : Rule) (id : Text) (rows : List Row) → a.parser ≡ Some (Unsigned low high)
+    → HasValue a id rows → (n : ℕ) × NumberIs rows id n × (low ≤ n) × (n ≤ high)
+number low high a id rows parser v =
+    let in_range = accepts-Accepts a.ignore_case (Unsigned low high) v.text (rw parser at v.passes) in (
+      digits_value 10 (without_leading_plus v.text),
+      (v.text, rw parser at v.one, in_range.0, refl),
+      in_range.2,
+      in_range.3,
+    )
 
 module _ (choices : Choices) where
   -- the command line as it is read
@@ -36,6 +71,15 @@ module _ (choices : Choices) where
   -- a subcommand of it
   abbrev leaf : Shape → Shape
   leaf s = built_leaf (inherited (with_leaf_noted (marked_built (command_line choices).top)) s)
+
+  abbrev explore_leaf : Shape
+  explore_leaf = leaf (line.explore choices).top
+
+  abbrev replay_leaf : Shape
+  replay_leaf = leaf line.replay.top
+
+  abbrev check_leaf : Shape
+  check_leaf = leaf line.check.top
 
   regular : AreRegular all.top.rules all.top.rules
   regular = (record { own = refl; valued = λ set. absurd (cc) }, tt)
@@ -49,15 +93,15 @@ module _ (choices : Choices) where
       → IsRegular c a × Others
   flag own not others = (record { own = own; valued = λ set. absurd (not set) }, others)
 
-  explore_regular : AreRegular (leaf (line.explore choices).top).rules (leaf (line.explore choices).top).rules
+  explore_regular : AreRegular explore_leaf.rules explore_leaf.rules
   explore_regular =
       valued refl refl (valued refl refl (valued refl refl (valued refl refl (valued refl refl
       (flag refl (λ set. cc) (valued refl refl (flag refl (λ set. cc) tt)))))))
 
-  replay_regular : AreRegular (leaf line.replay.top).rules (leaf line.replay.top).rules
+  replay_regular : AreRegular replay_leaf.rules replay_leaf.rules
   replay_regular = valued refl refl (valued refl refl (flag refl (λ set. cc) tt))
 
-  check_regular : AreRegular (leaf line.check.top).rules (leaf line.check.top).rules
+  check_regular : AreRegular check_leaf.rules check_leaf.rules
   check_regular = valued refl refl (valued refl refl (flag refl (λ set. cc) tt))
 
   -- ---- the subcommand that the words name
@@ -66,52 +110,33 @@ module _ (choices : Choices) where
   no_and true h = h
   no_and false h = h
 
-  -- the words after the subcommand's name have no fault, and its matches are these
-  pub record IsPassed (s : Shape) (name : Text) (rows : List Row) : Type 0 where
-    pub words : List Text
-    pub named : name ≡ s.name
-    pub are : rows ≡ rows_after s.rules [] words
-    pub none : level_fault s [] nothing_held words false [] ≡ []
-
-  passed : (s : Shape) (words : List Text) (name : Text) (rows : List Row) → Some (rows_at s words) ≡ Some (name, rows)
-      → level_fault s [] nothing_held words false [] ≡ [] → IsPassed s name rows
-  passed s words name rows is none =
-      let same : rows_at s words ≡ (name, rows) = ap (λ o. unwrap_or o (name, rows)) is in
-      record { words = words; named = sym (ap (λ p. p.0) same); are = sym (ap (λ p. p.1) same); none = none }
-
   -- the words after the name of one of the subcommands have no fault
   abbrev AreNamed : Text → List Row → Type 0
-  AreNamed name rows = IsPassed (leaf (line.explore choices).top) name rows ⊎ IsPassed (leaf line.replay.top) name rows
-      ⊎ IsPassed (leaf line.check.top) name rows
+  AreNamed name rows = IsPassed explore_leaf name rows ⊎ IsPassed replay_leaf name rows ⊎ IsPassed check_leaf name rows
 
-  -- the first of the four whose name is this
-  module _ (name : Text) (rows : List Row) where
-    by_name : (p : Text × List Text) → bytes_eq p.0 (codes "help") ≡ false
-        → entered all (Some p) ≡ Some (name, rows) → entered_fault all (Some p) ≡ []
-        → AreNamed name rows
-    by_name p other is none =
-        go (bytes_eq (codes "explore") p.0) (bytes_eq (codes "replay") p.0) (bytes_eq (codes "check") p.0)
-        (bytes_eq (codes "help") p.0) refl is none
-      where
-        go : (e r c h : Bool) → bytes_eq (codes "help") p.0 ≡ h
-            → option_map (λ s. rows_at s p.1)
-            (cond (e || false) (Some (leaf (line.explore choices).top))
-            (cond (r || false) (Some (leaf line.replay.top))
-            (cond (c || false) (Some (leaf line.check.top)) (cond (h || false) (Some (leaf help_shape)) None))))
-            ≡ Some (name, rows)
-            → option_map_or (λ s. level_fault s [] nothing_held p.1 false [])
-            (cond (e || false) (Some (leaf (line.explore choices).top))
-            (cond (r || false) (Some (leaf line.replay.top))
-            (cond (c || false) (Some (leaf line.check.top)) (cond (h || false) (Some (leaf help_shape)) None)))) [] ≡ []
-            → AreNamed name rows
-        go true r c h said is none = inl (passed (leaf (line.explore choices).top) p.1 name rows is none)
-        go false true c h said is none = inr (inl (passed (leaf line.replay.top) p.1 name rows is none))
-        go false false true h said is none = inr (inr (passed (leaf line.check.top) p.1 name rows is none))
-        go false false false true said is none =
-            let word : codes "help" ≡ p.0 = (bytes_eq-Decides (codes "help") p.0).0 said in
-            let same : bytes_eq p.0 (codes "help") ≡ true = (bytes_eq-Decides p.0 (codes "help")).1 (sym word) in
-            absurd (cc)
-        go false false false false said is none = absurd (cc)
+  -- the first of the four whose name is the word
+  abbrev leaf_of : Bool → Bool → Bool → Bool → Option Shape
+  leaf_of e r c h = cond (e || false) (Some explore_leaf) (cond (r || false) (Some replay_leaf)
+      (cond (c || false) (Some check_leaf) (cond (h || false) (Some (leaf help_shape)) None)))
+
+  by_name : (name : Text) (rows : List Row) (p : Text × List Text) → bytes_eq p.0 (codes "help") ≡ false
+      → entered all (Some p) ≡ Some (name, rows) → entered_fault all (Some p) ≡ []
+      → AreNamed name rows
+  by_name name rows p other is none =
+      go (bytes_eq (codes "explore") p.0) (bytes_eq (codes "replay") p.0) (bytes_eq (codes "check") p.0)
+      (bytes_eq (codes "help") p.0) refl is none
+    where
+      go : (e r c h : Bool) → bytes_eq (codes "help") p.0 ≡ h
+          → option_map (λ s. rows_at s p.1) (leaf_of e r c h) ≡ Some (name, rows)
+          → option_map_or (λ s. level_fault s [] nothing_held p.1 false []) (leaf_of e r c h) [] ≡ []
+          → AreNamed name rows
+      go true r c h said is none = inl (passed explore_leaf p.1 name rows is none)
+      go false true c h said is none = inr (inl (passed replay_leaf p.1 name rows is none))
+      go false false true h said is none = inr (inr (passed check_leaf p.1 name rows is none))
+      go false false false true said is none =
+          let same = (bytes_eq-Decides p.0 (codes "help")).1 (sym ((bytes_eq-Decides (codes "help") p.0).0 said)) in
+          absurd (cc)
+      go false false false false said is none = absurd (cc)
 
   module _ (words : List Text) (none : fault_of (command_line choices) words ≡ []) where
     stop : Option (Text × List Text)
@@ -125,43 +150,19 @@ module _ (choices : Choices) where
     pub which : (name : Text) (rows : List Row) → subcommand_of (command_line choices) words ≡ Some (name, rows)
         → AreNamed name rows
     unfolding stop
-    which name rows is = go stop not_help is below
+    which name rows is =
+        go stop (no_help all.top (names_of all) _ _ _ level regular) is
+        (below_passed all.top (names_of all) _ _ _ level)
       where
-        not_help : IfSome stop (λ q. is_help all.top q.0 ≡ false)
-        not_help =
-            no_help all.top (names_of all) (argument_words (command_line choices) words)
-            (is_some (subcommand_of (command_line choices) words))
-            (entered_fault all stop) level regular
-
-        below : entered_fault all stop ≡ []
-        below = below_passed all.top (names_of all) (argument_words (command_line choices) words)
-            (is_some (subcommand_of (command_line choices) words))
-            (entered_fault all stop) level
-
         go : (o : Option (Text × List Text)) → IfSome o (λ q. is_help all.top q.0 ≡ false)
-            → entered all o ≡ Some (name, rows)
-            → entered_fault all o ≡ [] → AreNamed name rows
+            → entered all o ≡ Some (name, rows) → entered_fault all o ≡ [] → AreNamed name rows
         go None other is none = absurd (cc)
         go (Some p) other is none = by_name name rows p (no_and (bytes_eq p.0 (codes "help")) other) is none
 
-  -- ---- what their matches hold
-
-  text_of_value : (a : Rule) (id : Text) (rows : List Row) → HasValue a id rows → HasText rows id
-  text_of_value a id rows v = (v.text, v.first)
-
-  number_of_value : (low high : ℕ) (a : Rule) (id : Text) (rows : List Row) → a.parser ≡ Some (Unsigned low high)
-      → HasValue a id rows
-      → (n : ℕ) × NumberIs rows id n × (low ≤ n) × (n ≤ high)
-  number_of_value low high a id rows parser v =
-      let passes : accepts a.ignore_case (Unsigned low high) v.text ≡ true = rw parser at v.passes in
-      let in_range : Accepts a.ignore_case (Unsigned low high) v.text =
-      accepts-Accepts a.ignore_case (Unsigned low high) v.text passes in
-      let one : one_of id rows ≡ Some v.text = rw parser at v.one in
-      (digits_value 10 (without_leading_plus v.text), (v.text, one, in_range.0, refl), in_range.2, in_range.3)
+  -- ---- what the matches of `explore` hold
 
   merge_of_value : AreMerges choices → (a : Rule) (rows : List Row) → a.parser ≡ Some (Names choices)
-      → a.ignore_case ≡ false
-      → HasValue a (codes "merge") rows → (m : Merge) × MergeIs rows m
+      → a.ignore_case ≡ false → HasValue a (codes "merge") rows → (m : Merge) × MergeIs rows m
   merge_of_value merges a rows parser cased v =
       let passes : accepts false (Names choices) v.text ≡ true = rw (parser, cased) at v.passes in
       let among : list_any (λ t. bytes_eq t v.text) (codes "exact" ∷ codes "names" ∷ []) ≡ true =
@@ -170,120 +171,57 @@ module _ (choices : Choices) where
       go (bytes_eq (codes "exact") v.text) (bytes_eq (codes "names") v.text) refl refl among
     where
       go : (e n : Bool) → bytes_eq (codes "exact") v.text ≡ e → bytes_eq (codes "names") v.text ≡ n
-          → (e || (n || false)) ≡ true
-          → (m : Merge) × MergeIs rows m
-      go true n exact names among = (
-        merge.Exact,
-        v.first
-            ∙ ap (λ t. Some t) (sym ((bytes_eq-Decides (codes "exact") v.text).0 exact)),
-      )
-      go false true exact names among = (
-        merge.Names,
-        v.first
-            ∙ ap (λ t. Some t) (sym ((bytes_eq-Decides (codes "names") v.text).0 names)),
-      )
+          → (e || (n || false)) ≡ true → (m : Merge) × MergeIs rows m
+      go true n exact names among = (merge.Exact, cc (v.first, (bytes_eq-Decides (codes "exact") v.text).0 exact))
+      go false true exact names among = (merge.Names, cc (v.first, (bytes_eq-Decides (codes "names") v.text).0 names))
       go false false exact names among = absurd (cc)
 
-  module _ (name : Text) (rows : List Row) (is : IsPassed (leaf (line.explore choices).top) name rows) where
-    value : (id : Text) (a : Rule) → HasValue a id (rows_after (leaf (line.explore choices).top).rules [] is.words)
-        → HasValue a id rows
-    value id a v = subst (HasValue a id) (sym is.are) v
-
-    pub explore_file : HasText rows (codes "file")
-    explore_file = text_of_value _ (codes "file") rows (value (codes "file") _
-        (required_value (leaf (line.explore choices).top) [] is.words false [] is.none explore_regular refl
-        (codes "file") _ refl refl refl))
-
-    pub explore_options : AreMerges choices → (settings : Settings) × OptionsAre rows settings
-    explore_options merges =
-        let steps = number_of_value 0 400 _ (codes "steps") rows refl (value (codes "steps") _
-        (required_value (leaf (line.explore choices).top) [] is.words false [] is.none explore_regular refl
-        (codes "steps") _ refl refl refl)) in
-        let workers = number_of_value 1 8 _ (codes "workers") rows refl (value (codes "workers") _
-        (default_value (leaf (line.explore choices).top) [] is.words false [] is.none explore_regular
-        (codes "workers") _ refl refl refl)) in
-        let states = number_of_value 1 2000000 _ (codes "states") rows refl (value (codes "states") _
-        (default_value (leaf (line.explore choices).top) [] is.words false [] is.none explore_regular
-        (codes "states") _ refl refl refl)) in
-        let merge = merge_of_value merges _ rows refl refl (value (codes "merge") _
-        (default_value (leaf (line.explore choices).top) [] is.words false [] is.none explore_regular
-        (codes "merge") _ refl refl refl)) in (
-          record { steps = steps.0; limit = states.0; merge = merge.0; workers = workers.0 },
-          record {
-            steps = steps.1;
-            workers = workers.1;
-            limit = states.1;
-            merge = merge.1;
-            range = record {
-              steps = steps.3;
-              some = states.2;
-              limit = states.3;
-              worker = workers.2;
-              workers = workers.3;
-            };
-          },
-        )
-
-  module _ (name : Text) (rows : List Row) (is : IsPassed (leaf line.replay.top) name rows) where
-    replayed : (id : Text) (a : Rule) → arg_by_id (leaf line.replay.top).rules id ≡ Some a → action_of a ≡ Set
-        → a.required ≡ true → HasText rows id
-    replayed id a found set required =
-        text_of_value a id rows (subst (HasValue a id) (sym is.are)
-        (required_value (leaf line.replay.top) [] is.words false [] is.none replay_regular refl id a found set
-        required))
-
-    pub replay_file : HasText rows (codes "file")
-    replay_file = replayed (codes "file") _ refl refl refl
-
-    pub replay_schedule : HasText rows (codes "schedule")
-    replay_schedule = replayed (codes "schedule") _ refl refl refl
-
-  module _ (name : Text) (rows : List Row) (is : IsPassed (leaf line.check.top) name rows) where
-    checked : (id : Text) (a : Rule) → arg_by_id (leaf line.check.top).rules id ≡ Some a → action_of a ≡ Set
-        → a.required ≡ true → HasText rows id
-    checked id a found set required =
-        text_of_value a id rows (subst (HasValue a id) (sym is.are)
-        (required_value (leaf line.check.top) [] is.words false [] is.none check_regular refl id a found set required))
-
-    pub check_file : HasText rows (codes "file")
-    check_file = checked (codes "file") _ refl refl refl
-
-    pub check_book : HasText rows (codes "book")
-    check_book = checked (codes "book") _ refl refl refl
-
-explore_is_not_replay : codes "explore" ≡ codes "replay" → ⊥
-explore_is_not_replay e =
-    let heads : 101 ≡ 114 = ap (λ (l : List ℕ). slice_index l 0) e in absurd (omega (arith, heads))
-
-explore_is_not_check : codes "explore" ≡ codes "check" → ⊥
-explore_is_not_check e =
-    let heads : 101 ≡ 99 = ap (λ (l : List ℕ). slice_index l 0) e in absurd (omega (arith, heads))
-
-replay_is_not_check : codes "replay" ≡ codes "check" → ⊥
-replay_is_not_check e =
-    let heads : 114 ≡ 99 = ap (λ (l : List ℕ). slice_index l 0) e in absurd (omega (arith, heads))
+  explore_options : {name : Text} (rows : List Row) → IsPassed explore_leaf name rows → AreMerges choices
+      → (settings : Settings) × OptionsAre rows settings
+  explore_options rows is merges =
+      let steps = number 0 400 _ (codes "steps") rows refl (required is explore_regular _ _ refl refl refl refl) in
+      let workers = number 1 8 _ (codes "workers") rows refl (defaulted is explore_regular _ _ refl refl refl) in
+      let states = number 1 2000000 _ (codes "states") rows refl (defaulted is explore_regular _ _ refl refl refl) in
+      let merge = merge_of_value merges _ rows refl refl (defaulted is explore_regular _ _ refl refl refl) in (
+        record { steps = steps.0; limit = states.0; merge = merge.0; workers = workers.0 },
+        record {
+          steps = steps.1;
+          workers = workers.1;
+          limit = states.1;
+          merge = merge.1;
+          range = record {
+            steps = steps.3;
+            some = states.2;
+            limit = states.3;
+            worker = workers.2;
+            workers = workers.3;
+          };
+        },
+      )
 
 module _ (words : List Text) (name : Text) (rows : List Row) (are : AreRead words name rows) where
   pub exploring : codes "explore" ≡ name → HasText rows (codes "file")
       × ((settings : Settings) × OptionsAre rows settings)
   exploring named = elim (which are.0 words are.2 name rows are.3) [
-    | inl is ↦ (explore_file are.0 name rows is, explore_options are.0 name rows is are.1)
-    | inr (inl is) ↦ absurd (explore_is_not_replay (named ∙ is.named))
-    | inr (inr is) ↦ absurd (explore_is_not_check (named ∙ is.named))
+    | inl is ↦ (text is (explore_regular are.0) _ _ refl refl refl refl, explore_options are.0 rows is are.1)
+    | inr (inl is) ↦ absurd (cc (named, is.named))
+    | inr (inr is) ↦ absurd (cc (named, is.named))
   ]
 
   pub replaying : codes "replay" ≡ name → HasText rows (codes "file") × HasText rows (codes "schedule")
   replaying named = elim (which are.0 words are.2 name rows are.3) [
-    | inl is ↦ absurd (explore_is_not_replay (sym (named ∙ is.named)))
-    | inr (inl is) ↦ (replay_file are.0 name rows is, replay_schedule are.0 name rows is)
-    | inr (inr is) ↦ absurd (replay_is_not_check (named ∙ is.named))
+    | inl is ↦ absurd (cc (named, is.named))
+    | inr (inl is) ↦ let texts = text is (replay_regular are.0) in
+        (texts (codes "file") _ refl refl refl refl, texts (codes "schedule") _ refl refl refl refl)
+    | inr (inr is) ↦ absurd (cc (named, is.named))
   ]
 
   pub checking : codes "check" ≡ name → HasText rows (codes "file") × HasText rows (codes "book")
   checking named = elim (which are.0 words are.2 name rows are.3) [
-    | inl is ↦ absurd (explore_is_not_check (sym (named ∙ is.named)))
-    | inr (inl is) ↦ absurd (replay_is_not_check (sym (named ∙ is.named)))
-    | inr (inr is) ↦ (check_file are.0 name rows is, check_book are.0 name rows is)
+    | inl is ↦ absurd (cc (named, is.named))
+    | inr (inl is) ↦ absurd (cc (named, is.named))
+    | inr (inr is) ↦ let texts = text is (check_regular are.0) in
+        (texts (codes "file") _ refl refl refl refl, texts (codes "book") _ refl refl refl refl)
   ]
 
   pub no_other : (codes "explore" ≡ name → ⊥) → (codes "replay" ≡ name → ⊥) → (codes "check" ≡ name → ⊥) → ⊥

@@ -1,5 +1,5 @@
 -- What has been read of a schedule's text, and what is left of it.
-use Rattle.std.proofs.Common.{◌≡◌, ◌∙◌, ◌+◌, ◌-◌, ◌<◌, ◌≤◌, ◌++◌, ℕ, List, [], ◌∷◌, length, take, drop, slice_index_or}
+use Rattle.std.proofs.Common.{◌≡◌, ◌∙◌, ◌-◌, ◌<◌, ◌≤◌, ◌++◌, ℕ, List, [], ◌∷◌, length, take, drop, slice_index_or}
 use Rattle.std.proofs.Common.{arith, refl, sym, ap, subst, append_assoc, append-nil, length-append}
 use Rattle.std.specs.List.{All}
 use Rattle.std.proofs.Math.Seq.{get_or-append_seam}
@@ -42,15 +42,8 @@ pub read_more : (text threads rest : List ℕ) → HasRead text threads rest →
 read_more text [] rest h f bounded = absurd (omega (arith, h.3))
 read_more text (x ∷ threads) rest h f bounded =
     let t = at rest 1 - 48 in
-    let cut : rest ≡ (44 ∷ digit t ∷ []) ++ drop 2 rest = front rest f in
-    let split : text ≡ schedule_text (x ∷ threads) ++ ((44 ∷ digit t ∷ []) ++ drop 2 rest) =
-    h.0 ∙ ap (λ r. schedule_text (x ∷ threads) ++ r) cut in
-    let joined : schedule_text (x ∷ threads ++ t ∷ []) ≡ schedule_text (x ∷ threads) ++ 44 ∷ digit t ∷ [] =
-    ap (λ l. digit x ∷ l) (commaed-push threads t) in
-    let whole : text ≡ schedule_text (x ∷ threads ++ t ∷ []) ++ drop 2 rest =
-    split ∙ sym (append_assoc (schedule_text (x ∷ threads)) (44 ∷ digit t ∷ []) (drop 2 rest))
-    ∙ sym (ap (λ l. l ++ drop 2 rest) joined) in (
-      rw (take_rest rest 2) whole,
+    let split : text ≡ schedule_text (x ∷ threads) ++ (44 ∷ digit t ∷ drop 2 rest) = rw (← front rest f) h.0 in (
+      rw (take_rest rest 2, commaed-push threads t) (simp append_assoc split),
       All-append (λ t. t < 10) (x ∷ threads) (t ∷ []) h.1 (all_one t (omega (arith, f.2, f.3))),
       simp length-append (omega arith),
       simp length-append (omega arith),
@@ -73,12 +66,7 @@ schedule_left : (text done threads rest : List ℕ) → HasRead text done rest �
 schedule_left text [] threads rest h e = absurd (omega (arith, h.3))
 schedule_left text (d ∷ done) [] rest h e = cc (h.0, e)
 schedule_left text (d ∷ done) (t ∷ threads) rest h e =
-    let whole : digit t ∷ commaed threads ≡ digit d ∷ (commaed done ++ rest) = sym e ∙ h.0 in
-    let tails : commaed threads ≡ commaed done ++ rest = cc in
-    let digits : digit t ≡ digit d = cc in
-    let heads : t ≡ d = omega arith in
-    let (more, (split, left)) = commaed_left done threads rest tails in
-    (more, (cc, left))
+    commaed_left (d ∷ done) (t ∷ threads) rest (ap (λ l. 44 ∷ l) (sym e ∙ h.0))
 
 follows : (done more rest : List ℕ) → rest ≡ commaed more → All (λ t. t < 10) (done ++ more) → 1 ≤ length rest
     → Follows rest
@@ -96,14 +84,11 @@ strays text threads rest h some not others is =
 
 pub too_long : (text threads rest : List ℕ) → HasRead text threads rest → 1 ≤ length rest → 400 ≤ length threads
     → (others : List ℕ) → IsSchedule text others → ⊥
-too_long text threads rest h some many others is =
-    let (more, (split, left)) = schedule_left text threads others rest h is.0 in
-    let lengths : length others ≡ length threads + length more = ap length split ∙ length-append threads more in
-    none more left lengths
+too_long text threads rest h some many others is = none (schedule_left text threads others rest h is.0)
   where
-    none : (more : List ℕ) → rest ≡ commaed more → length others ≡ length threads + length more → ⊥
-    none [] left lengths = absurd (omega (arith, ap length left))
-    none (t ∷ more) left lengths = absurd (omega (arith, is.2))
+    none : (more : List ℕ) × ((others ≡ threads ++ more) × (rest ≡ commaed more)) → ⊥
+    none ([], (split, left)) = absurd (omega (arith, ap length left))
+    none (t ∷ more, (split, left)) = absurd (omega (arith, is.2, simp length-append at (ap length split)))
 
 pub ends : (text threads rest : List ℕ) → HasRead text threads rest → length rest ≡ 0 → IsSchedule text threads
 ends text threads [] h e = (h.0 ∙ append-nil (schedule_text threads), h.1, h.2)

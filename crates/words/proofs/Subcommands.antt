@@ -1,17 +1,16 @@
 -- What the matches of a subcommand hold where clap finds no fault in its words.
 use Rattle.std.proofs.Common.{◌≡◌, ◌&&◌, Bool, true, false, not, refl, List, [], Some}
-use Rattle.std.specs.Prelude.{IfSome, find}
+use Rattle.std.specs.Prelude.{IfSome}
 use Rattle.std.specs.List.{list_any}
-use Rattle.std.specs.Str.{bytes_eq}
 use Rattle.clap.specs.Faults.{check_fault, defaults_fault, level_fault, settle_fault, walk_fault}
 use Rattle.clap.specs.Kinds.{Kinds, check_kinds}
 use Rattle.clap.specs.Simple.{Shape}
 use Rattle.clap.specs.Takes.{is_given, value_passes}
 use Rattle.clap.specs.Values.{read_as}
 use Rattle.clap.specs.Walk.{Held, Names, Row, Rule, Text, action_of, arg_by_id, first_of, nothing_held, one_of}
-use Rattle.clap.specs.Walk.{reading_by, rows_after, settled, walk, walk_from}
+use Rattle.clap.specs.Walk.{has_row, reading_by, rows_after, settled, walk, walk_from}
 use Rattle.clap.specs.declared.builder.action.ArgAction.TheVariants.{Set}
-use Rattle.words.proofs.Accepted.{AreRegular, IsFilled, Suit, default_given, defaults_suit, filled}
+use Rattle.words.proofs.Accepted.{AreRegular, Suit, default_given, defaults_suit, filled}
 use Rattle.words.proofs.Accepted.{given_has_row, has_default, none_of, required_given, settled_suit}
 use Rattle.words.proofs.Entered.{Stands, is_help, walk_stands}
 
@@ -21,15 +20,6 @@ pub record HasValue (a : Rule) (id : Text) (rows : List Row) : Type 0 where
   pub first : first_of id rows ≡ Some text
   pub one : one_of id rows ≡ Some (read_as (reading_by a) text)
   pub passes : value_passes a text ≡ true
-
-has_value : (a : Rule) (id : Text) (rows : List Row) (r : Row) → find (λ x. bytes_eq x.id id) rows ≡ Some r
-    → IsFilled a r → HasValue a id rows
-has_value a id rows r is row = record {
-  text = row.text;
-  first = rw is row.first;
-  one = rw is (rw (row.first, row.reading) refl);
-  passes = row.passes;
-}
 
 none_wanted : (help subcommand argument : Bool) → check_kinds help subcommand argument ≡ [] → (subcommand ≡ false)
     × (argument ≡ false)
@@ -66,28 +56,33 @@ module _ (s : Shape) (names : Names) (words : List Text) (has : Bool) (below : K
     pub no_help : IfSome (walk s.rules names nothing_held words).stopped (λ q. is_help s q.0 ≡ false)
     no_help = stands.stopped
 
-    suit : Suit s.rules (rows_after s.rules names words)
-    suit = defaults_suit s.rules s.args_override_self regular s.rules
+    -- the rows at the end
+    abbrev rows : List Row
+    rows = rows_after s.rules names words
+
+    -- an argument that is set has a value, if it has a row
+    has_value : (id : Text) (a : Rule) → has_row id rows ≡ true → arg_by_id s.rules id ≡ Some a → action_of a ≡ Set
+        → HasValue a id rows
+    has_value id a has is set =
+        let suit : Suit s.rules rows = defaults_suit s.rules s.args_override_self regular s.rules
         (settled s.rules end).rows regular parts.3
-        (settled_suit s.rules s.args_override_self regular end parts.2 stands.rows)
+        (settled_suit s.rules s.args_override_self regular end parts.2 stands.rows) in
+        let (r, found, value) = filled s.rules rows id a suit has is set in record {
+          text = value.text;
+          first = rw found value.first;
+          one = rw found (rw (value.first, value.reading) refl);
+          passes = value.passes;
+        }
 
     -- an argument that is required, or has a default, has a value
     pub required_value : s.subcommand_negates_reqs ≡ false → (id : Text) (a : Rule) → arg_by_id s.rules id ≡ Some a
-        → action_of a ≡ Set
-        → a.required ≡ true → HasValue a id (rows_after s.rules names words)
+        → action_of a ≡ Set → a.required ≡ true → HasValue a id rows
     required_value kept id a is set required =
         let argument = (none_wanted _ (not has && s.subcommand_required) _ parts.4).1 in
-        let missing : list_any (λ x. x.required && not (is_given x.id (rows_after s.rules names words))) s.rules
-        ≡ false = rw kept at argument in
-        let given = required_given (rows_after s.rules names words) s.rules id a missing is required in
-        let row =
-        filled s.rules (rows_after s.rules names words) id a suit
-        (given_has_row id (rows_after s.rules names words) given) is set in
-        has_value a id (rows_after s.rules names words) row.0 row.1 row.2
+        let missing : list_any (λ x. x.required && not (is_given x.id rows)) s.rules ≡ false = rw kept at argument in
+        has_value id a (given_has_row id rows (required_given rows s.rules id a missing is required)) is set
 
     pub default_value : (id : Text) (a : Rule) → arg_by_id s.rules id ≡ Some a → action_of a ≡ Set
-        → has_default id s.rules ≡ true → HasValue a id (rows_after s.rules names words)
+        → has_default id s.rules ≡ true → HasValue a id rows
     default_value id a is set default =
-        let has = default_given id s.rules (settled s.rules end).rows default in
-        let row = filled s.rules (rows_after s.rules names words) id a suit has is set in
-        has_value a id (rows_after s.rules names words) row.0 row.1 row.2
+        has_value id a (default_given id s.rules (settled s.rules end).rows default) is set

@@ -1,6 +1,5 @@
 -- The values that the typed getters of clap's matches read.
-use Rattle.std.proofs.Common.{◌≡◌, ◌∙◌, ◌<◌, ◌^◌, ◌↔◌, ℕ, List, Bool, true, arith, refl, sym, ap, subst, codes, false}
-use Rattle.std.proofs.Common.{slice_index}
+use Rattle.std.proofs.Common.{◌≡◌, ◌∙◌, ◌<◌, ◌^◌, ◌↔◌, ℕ, List, Bool, true, refl, sym, ap, subst, codes, false}
 use Rattle.std.specs.Option.{option_eq}
 use mathlib.Core.Bool.{beq}
 use Rattle.std.specs.Prelude.{Option, Some, None, Ok, Err, Result, MatchOption}
@@ -38,9 +37,4 @@ flag_read E rows id (Some t) e None none value b is =
 flag_read E rows id (Some t) e (Some true) none value b is =
     let same : t ≡ codes "true" = value t refl in (λ h. sym e ∙ ap Some same, λ u. is)
 flag_read E rows id (Some t) e (Some false) none value b is =
-    let same : t ≡ codes "false" = value t refl in (
-      λ h. absurd (cc),
-      λ u. let other : t ≡ codes "true" = cc in
-          let heads : 102 ≡ 116 = ap (λ (l : List ℕ). slice_index l 0) (sym same ∙ other) in
-          absurd (omega (arith, heads)),
-    )
+    (λ h. absurd (cc), λ u. let same : t ≡ codes "false" = value t refl in absurd (cc))

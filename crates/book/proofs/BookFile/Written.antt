@@ -1,22 +1,19 @@
 -- The lines that a closed and sound book writes pass.
 use Rattle.std.proofs.Common.{rules, ◌≡◌, ℕ, zero, suc, ◌+◌, ◌≤◌, Bool, true, None, Some, List, [], ◌∷◌, ◌++◌}
-use Rattle.std.proofs.Common.{length, map, replicate, refl, sym, ap, ◌∙◌, arith, slice_get, subst, append_assoc}
+use Rattle.std.proofs.Common.{length, map, replicate, refl, sym, ap, ◌∙◌, arith, slice_get, append_assoc}
 use Rattle.std.proofs.Common.{append-nil}
 use Rattle.std.specs.List.{AllZip}
 use Rattle.std.proofs.lemmas.Bool.{true≢false}
 use Rattle.std.proofs.lemmas.List.{map-append, length_push}
-use Rattle.std.proofs.lemmas.Option.{same_Some}
 use Rattle.sched_program.specs.Program.{Program}
 use Rattle.sched_program.specs.declared.operation.OpId.{OpId}
 use Rattle.tree_machine.specs.Rules.{Rules}
 use Rattle.tree_machine.specs.Alike.{AreStatesAlike}
 use Rattle.tree_machine.specs.History.{all_named, history_of}
-use Rattle.tree_machine.specs.Step.{idle, start, step, Fits}
-use Rattle.tree_machine.specs.declared.state.Thread.{Thread}
+use Rattle.tree_machine.specs.Step.{start, Fits}
 use Rattle.tree_machine.specs.declared.state.State.{State}
 use Rattle.lin.specs.Linearization.{IsLinearization}
 use Rattle.tree_machine.proofs.Lists.{get-append_left, get-append_right, get_at}
-use Rattle.book.specs.declared.entry.Origin.{Origin}
 use Rattle.replay.specs.declared.finding.Finding.{Finding}
 use Rattle.replay.specs.declared.finding.Finding.TheVariants as found
 use Rattle.book.specs.Entries.{Entry, Contents, At, states}
@@ -27,7 +24,6 @@ use Rattle.book.proofs.Closed.{worked_out_closed}
 use Rattle.replay.specs.Closed.{AreClosed}
 use Rattle.book.specs.Closed.{IsWorkedOut, IsClosed, AreSound}
 use Rattle.book.specs.Books.{CountsAsOne, machine_in, right_in, IsLawfulIn}
-use Rattle.options.specs.declared.options.Merge.{Merge}
 use Rattle.book.proofs.Agreeing.{Agree, book_back}
 use Rattle.book.proofs.Unknown.{states-at}
 use Rattle.replay.specs.declared.file.line.BookLine.{BookLine}
@@ -54,20 +50,9 @@ none_explained program = record {
   replies = tt;
 }
 
-start_history : (Machine Form : Type 0) {Memory Place : Type 0} (rules : Rules Memory Place) (program : Program)
-    → history_of (start {Machine = Machine} {Form = Form} rules program) ≡ record { begun = []; finished = [] }
-start_history Machine Form {Memory} {Place} rules program =
-    let n = length program.threads in
-    let notes : all_named 0 (map (λ (thread : Thread Place). thread.notes) (replicate n idle)) ≡ [] =
-    ap (all_named 0) (map-replicate (λ (thread : Thread Place). thread.notes) n idle) ∙ none_named n 0 in
-    let replies : all_named 0 (map (λ (thread : Thread Place). thread.replies) (replicate n idle)) ≡ [] =
-    ap (all_named 0) (map-replicate (λ (thread : Thread Place). thread.replies) n idle) ∙ none_named n 0 in
-    λ i. record { begun = notes i; finished = replies i }
-
 start_explained : (Machine Form : Type 0) {Memory Place : Type 0} (rules : Rules Memory Place) (program : Program)
     → IsLinearization program (history_of (start {Machine = Machine} {Form = Form} rules program)) []
-start_explained Machine Form rules program =
-    subst (λ h. IsLinearization program h []) (sym (start_history Machine Form rules program)) (none_explained program)
+start_explained Machine Form rules program = simp (map-replicate, none_named) (none_explained program)
 
 module _ {Machine Memory Place Form : Type 0} (rules : Rules Memory Place) (program : Program) where
   -- the linearization that was found of a state shows it
@@ -77,7 +62,7 @@ module _ {Machine Memory Place Form : Type 0} (rules : Rules Memory Place) (prog
   found_shown s found.Order order right finds = absurd finds
   found_shown s found.History order right finds = absurd finds
   found_shown s (found.Sound linearization) order right finds =
-      ((right.0, right.1), subst (λ (names : List OpId). IsLinearization program (history_of s) names) finds right.2)
+      ((right.0, right.1), rw finds at right.2)
 
   sound_well : (s : State Machine Memory Place Form) (f : Finding) → IsFindingOf rules program s f → is_sound f ≡ true
       → IsWell rules program s
@@ -103,24 +88,16 @@ module _ {Machine Memory Place Form : Type 0} (rules : Rules Memory Place) (prog
     line_tells front rest e line whole some of_e =
         let here : At (front ++ e ∷ rest) (length front + 0) e = get-append_right front (e ∷ rest) 0 e refl in
         let plain : length front + 0 ≡ length front = omega arith in
-        let at : At es (length front) e =
-        ap (λ es. slice_get es (length front)) whole ∙ ap (slice_get (front ++ e ∷ rest)) (sym plain) ∙ here in
+        let at : At es (length front) e = rw (whole, ← plain) here in
         let from = law.origins (length front) e at some in
-        let same_origin : from.origin ≡ record { parent = line.parent; thread = line.thread } =
-        same_Some from.origin (record { parent = line.parent; thread = line.thread })
-        (sym from.recorded ∙ of_e.step) in
-        let number : line.parent ≡ from.origin.parent = sym (ap (λ (o : Origin). o.parent) same_origin) in
-        let thread : line.thread ≡ from.origin.thread = sym (ap (λ (o : Origin). o.thread) same_origin) in
+        let number : line.parent ≡ from.origin.parent = cc (from.recorded, of_e.step) in
+        let thread : line.thread ≡ from.origin.thread = cc (from.recorded, of_e.step) in
         let there = get_at front from.origin.parent from.earlier in
         let parent : there.0 ≡ from.parent =
-        same_Some there.0 from.parent (sym (get-append_left front (e ∷ rest) from.origin.parent there.0 there.1)
-        ∙ sym (ap (λ es. slice_get es from.origin.parent) whole) ∙ from.entered) in
+        cc (get-append_left front (e ∷ rest) from.origin.parent there.0 there.1, from.entered, whole) in
         let stands : slice_get (states front) line.parent ≡ Some from.parent.state =
-        ap (slice_get (states front)) number
-        ∙ states-at front from.origin.parent from.parent (there.1 ∙ ap Some parent) in
-        let leads : step rules program from.parent.state line.thread ≡ Some e.state =
-        ap (step rules program from.parent.state) thread ∙ from.step in (
-          record { parent = from.parent.state; at = stands; step = leads },
+        rw (number, ← parent) (states-at front from.origin.parent there.0 there.1) in (
+          record { parent = from.parent.state; at = stands; step = rw thread from.step },
           found_shown e.state e.finding line.order (law.findings (length front) e at) of_e.order,
         )
 
@@ -169,23 +146,18 @@ module _ {Machine Memory Place Form : Type 0} (rules : Rules Memory Place) (prog
       where
         go : (xs : List (Entry (State Machine Memory Place Form))) → es ≡ xs → AreLinesOf xs lines
             → Pass Machine Form rules program lines
-        go [] whole of_xs =
-            absurd (let q : None ≡ Some law.start.0 = sym (ap (λ es. slice_get es 0) whole) ∙ law.start.1 in cc)
+        go [] whole of_xs = absurd (let q : None ≡ Some law.start.0 = rw whole at law.start.1 in cc)
         go (e ∷ rest) whole of_xs =
-            let at : At es 0 e = ap (λ es. slice_get es 0) whole in
-            let first : e ≡ law.start.0 = same_Some e law.start.0 (sym at ∙ law.start.1) in
-            let starts : e.state ≡ start rules program =
-            ap (λ (x : Entry (State Machine Memory Place Form)). x.state) first ∙ law.start.2 in
-            let well : IsWell rules program e.state =
-            sound_well e.state e.finding (law.findings 0 e at) (sound 0 e at) in (
+            let at : At es 0 e = rw whole refl in
+            let first : e ≡ law.start.0 = cc (at, law.start.1) in
+            let starts : e.state ≡ start rules program = rw first law.start.2 in (
               states es,
               (
                 (
-                  subst (λ (s : State Machine Memory Place Form). IsWell rules program s) starts well,
+                  rw starts at (sound_well e.state e.finding (law.findings 0 e at) (sound 0 e at)),
                   start_explained Machine Form rules program,
                 ),
-                subst (λ (s : State Machine Memory Place Form). Continues rules program (s ∷ []) lines (states es))
-                    starts (written_continues (e ∷ []) rest lines whole (omega arith) of_xs),
+                rw starts at (written_continues (e ∷ []) rest lines whole (omega arith) of_xs),
               ),
               states_closed out,
             )
@@ -205,6 +177,5 @@ written_pass {Machine} {Memory} {Place} {Form} {same} rules book law machine mer
     lines of_book =
     let tested = book_back (machine_in rules book) machine (AreOneBy same) _ counts (right_in rules book) book law in
     lines_pass (rules book.machine) book.program same machine merges sound_alike
-    (λ r s r_fits s_fits one.
-    subst (λ (merge : Merge). CountsAsOne (rules book.machine) merge r s) closed.0 ((counts r s r_fits s_fits).0 one))
+    (λ r s r_fits s_fits one. rw closed.0 at ((counts r s r_fits s_fits).0 one))
     book.entries tested.law lines of_book closed.1 sound

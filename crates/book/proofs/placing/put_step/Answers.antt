@@ -35,24 +35,24 @@ module _ {S : Type 0} (es new : List (List ℕ × Entry S)) (i : ℕ) (one : Suc
 
 pub returns-in-Some-clause-put : goal.returns-in-Some-clause-put
 returns-in-Some-clause-put g c =
-    under_label c.args.slots.now.entries c.put_new.new.slots.entries c.args.parent c.args.one c.open-row.result
-    c.shown_step-shown.result.value c.in_ok-known.ensures.put c.open-row.ensures
+    under_label _ _ c.args.parent c.args.one c.open-row.result c.shown_step-shown.result.value
+    c.in_ok-known.ensures.put c.open-row.ensures
 
 pub returns-in_default-clause-put : goal.returns-in_default-clause-put
 returns-in_default-clause-put g c =
-    under_label c.args.slots.now.entries c.put_new.new.slots.entries c.args.parent c.args.one c.open-row.result
-    c.shown_step-shown.result.value c.in_ok-known.ensures.put c.open-row.ensures
+    under_label _ _ c.args.parent c.args.one c.open-row.result c.shown_step-shown.result.value
+    c.in_ok-known.ensures.put c.open-row.ensures
 
 pub returns-in-Some-clause-steps : goal.returns-in-Some-clause-steps
 returns-in-Some-clause-steps g c =
-    is_step c.args.slots.now.entries c.put_new.new.slots.entries c.args.parent c.args.one c.open-row.result
-    c.shown_step-shown.result.value c.in_ok-known.ensures.put c.open-row.ensures
+    is_step _ _ c.args.parent c.args.one c.open-row.result c.shown_step-shown.result.value
+    c.in_ok-known.ensures.put c.open-row.ensures
     (step (g.M.Machine.rules c.args.machine) c.args.program.now) c.args.source.now.value c.shown_step-shown.ensures
 
 pub returns-in_default-clause-steps : goal.returns-in_default-clause-steps
 returns-in_default-clause-steps g c =
-    is_step c.args.slots.now.entries c.put_new.new.slots.entries c.args.parent c.args.one c.open-row.result
-    c.shown_step-shown.result.value c.in_ok-known.ensures.put c.open-row.ensures
+    is_step _ _ c.args.parent c.args.one c.open-row.result c.shown_step-shown.result.value
+    c.in_ok-known.ensures.put c.open-row.ensures
     (step (g.M.Machine.rules c.args.machine) c.args.program.now) c.args.source.now.value c.shown_step-shown.ensures
 
 pub returns-in-Some-clause-kept : goal.returns-in-Some-clause-kept

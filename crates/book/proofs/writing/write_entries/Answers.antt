@@ -1,10 +1,9 @@
-use Rattle.std.proofs.Common.{◌≡◌, ◌<◌, ◌≤◌, None, Some, [], ◌∷◌, ◌++◌, ◌∙◌, length, take, sym, ap, subst, arith}
-use Rattle.std.proofs.Common.{slice_get}
+use Rattle.std.proofs.Common.{◌≡◌, ◌<◌, ◌≤◌, [], ◌∷◌, ◌++◌, ◌∙◌, length, sym, ap, arith}
 use Rattle.std.proofs.lemmas.List.{take_all}
 use Rattle.tree_machine.proofs.Lists.{get_at}
 use Rattle.replay.specs.Text.Files.{ended}
 use Rattle.replay.specs.Text.Written.{head_text}
-use Rattle.book.proofs.BookFile.Writable.{HasWritten, written_none, written_next, written_all}
+use Rattle.book.proofs.BookFile.Writable.{written_none, written_next, written_all}
 use Rattle.book.proofs.writing.write_entries.Goals as goal
 
 pub loop-index-init : goal.loop-index-init
@@ -17,12 +16,10 @@ loop-index-init g c =
 
 pub unreachable-requires : goal.unreachable-requires
 unreachable-requires g c =
-    let none : slice_get c.args.table.now.entries c.loop-index.index ≡ None =
-    sym c.in_default.ensures in
     let below : c.loop-index.index < c.len-index-end.result = c.loop-index-test.true in
     let end : c.len-index-end.result ≡ length c.args.table.now.entries = c.len-index-end.ensures in
     let there = get_at c.args.table.now.entries c.loop-index.index (omega arith) in
-    absurd (let q : None ≡ Some there.0 = sym none ∙ there.1 in cc)
+    absurd (cc (c.in_default.ensures, there.1))
 
 pub loop-index-preserved : goal.loop-index-preserved
 loop-index-preserved g c =
@@ -37,6 +34,5 @@ returns g c =
     let entries = c.args.table.now.entries in
     let past : c.len-index-end.result ≤ c.loop-index.index = c.loop-index-test.false in
     let end : c.len-index-end.result ≡ length entries = c.len-index-end.ensures in
-    let all : take c.loop-index.index entries ≡ entries = take_all c.loop-index.index entries (omega arith) in
     written_all entries c.loop-index.text.items c.requires.some c.requires.bounded
-    (subst (λ es. HasWritten (length entries) es c.loop-index.text.items) all c.loop-index.invariant)
+    (rw (take_all c.loop-index.index entries (omega arith)) at c.loop-index.invariant)

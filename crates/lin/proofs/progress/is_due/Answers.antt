@@ -1,4 +1,4 @@
-use Rattle.std.proofs.Common.{◌≡◌, ◌||◌, not, true, false, true≢false, sym, ◌∙◌, ap}
+use Rattle.std.proofs.Common.{◌||◌, not, true≢false, sym, ◌∙◌, ap}
 use Rattle.lin.specs.Completion.{Listed}
 use Rattle.lin.specs.OpSet.{operations_in}
 use Rattle.lin.proofs.Steps.{in_time, in_no_set, none_missing, by_test}
@@ -6,35 +6,24 @@ use Rattle.lin.proofs.progress.is_due.Goals as goal
 
 pub returns-then-not-contains : goal.returns-then-not-contains
 returns-then-not-contains c =
-    let history = c.args.timeline.now in
-    let listed : Listed = operations_in c.args.from.at.listed in
-    let barred : Listed = operations_in c.args.from.barred in
-    let before : Listed = operations_in c.args.before in
-    let finished : Listed = operations_in c.finished.result in
-    let name = c.args.name in
-    let sets : operations_in c.union-2.result name ≡ ((listed name || barred name) || before name) =
-    ap (λ f. f name) (c.union-2.ensures ∙ ap (λ (g : Listed). (λ a. g a || before a)) c.union.ensures) in
-    let none : ((listed name || barred name) || before name) ≡ false =
-    sym sets ∙ sym c.contains.ensures ∙ c.if-not-contains.true in
+    let sets =
+    ap (λ f. f c.args.name)
+    (c.union-2.ensures ∙ ap (λ (g : Listed). (λ a. g a || operations_in c.args.before a)) c.union.ensures) in
+    let none = sym sets ∙ sym c.contains.ensures ∙ c.if-not-contains.true in
     by_test c.is_within.result
-    (λ yes. in_time history listed barred before name c.requires.place c.requires.barred c.requires.before none)
+    (λ yes. in_time c.args.timeline.now _ _ _ _ c.requires.place c.requires.barred c.requires.before none)
     (λ no program keys rest completes. true≢false (sym (c.is_within.ensures.1 (λ a among.
-    none_missing history listed barred before name c.requires.place c.requires.barred c.requires.before program keys
-    rest completes c.finished.ensures.events finished c.finished.ensures.value a
+    none_missing c.args.timeline.now _ _ _ _ c.requires.place c.requires.barred c.requires.before program keys rest
+    completes c.finished.ensures.events _ c.finished.ensures.value a
     (sym (ap (λ f. f a) c.intersection.ensures) ∙ among))) ∙ no))
 
 pub returns-else-not-contains : goal.returns-else-not-contains
 returns-else-not-contains c =
-    let history = c.args.timeline.now in
-    let listed : Listed = operations_in c.args.from.at.listed in
-    let barred : Listed = operations_in c.args.from.barred in
-    let before : Listed = operations_in c.args.before in
-    let name = c.args.name in
-    let sets : operations_in c.union-2.result name ≡ ((listed name || barred name) || before name) =
-    ap (λ f. f name) (c.union-2.ensures ∙ ap (λ (g : Listed). (λ a. g a || before a)) c.union.ensures) in
-    let some : ((listed name || barred name) || before name) ≡ true =
-    sym sets ∙ sym c.contains.ensures ∙ c.if-not-contains.false in
-    by_test (not c.contains.result)
-    (λ yes. absurd (true≢false (sym yes ∙ ap not c.if-not-contains.false)))
-    (λ no program keys rest completes. in_no_set history listed barred before name c.requires.place c.requires.barred
-    c.requires.before program keys rest completes some)
+    let sets =
+    ap (λ f. f c.args.name)
+    (c.union-2.ensures ∙ ap (λ (g : Listed). (λ a. g a || operations_in c.args.before a)) c.union.ensures) in
+    let some = sym sets ∙ sym c.contains.ensures ∙ c.if-not-contains.false in
+    by_test (not c.contains.result) (λ yes. absurd (true≢false (sym yes ∙ ap not c.if-not-contains.false)))
+    (λ no program keys rest completes.
+    in_no_set c.args.timeline.now _ _ _ _ c.requires.place c.requires.barred c.requires.before program keys
+    rest completes some)

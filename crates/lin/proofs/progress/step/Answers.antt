@@ -5,7 +5,7 @@ use Rattle.lin.specs.Completion.{with_name}
 use Rattle.lin.specs.KeySet.{keys_in}
 use Rattle.lin.specs.OpSet.{operations_in}
 use Rattle.lin.specs.Progress.{AreBarred}
-use Rattle.lin.proofs.Steps.{barred_more, stands}
+use Rattle.lin.proofs.Steps.{barred_more}
 use Rattle.lin.proofs.progress.step.Goals as goal
 
 pub returns-in_default-clause-barred : goal.returns-in_default-clause-barred
@@ -18,15 +18,18 @@ returns-in_default-clause-barred c =
 
 pub returns-in_default-clause-stands : goal.returns-in_default-clause-stands
 returns-in_default-clause-stands c =
-    let history = c.args.timeline.now in
     let listed = operations_in c.args.from.at.listed in
     let name = c.args.name in
     let due : (listed name ≡ false)
-    × ((b : OpId) → with_name listed name b ≡ true → EndedBefore history name b → ⊥) = search rules in
+    × ((b : OpId) → with_name listed name b ≡ true → EndedBefore c.args.timeline.now name b → ⊥) = search rules in
     let replies : IfSome c.reply.result (λ r. r ≡ c.reply_to-stated.result) = search rules in
-    stands c.args.program.now history listed (keys_in c.args.from.at.keys) (keys_in c.after.result) name
-    c.in_ok-operation.operation c.reply.result c.reply_to-stated.result c.requires.begun due c.in_ok-operation.ensures
-    c.reply.ensures c.reply_to-stated.ensures replies c.after.ensures
+    record {
+      begun = c.requires.begun;
+      new = due.0;
+      in_time = due.1;
+      gives = rw (← c.in_ok-operation.ensures)
+          (rw (← c.reply.ensures, ← c.reply_to-stated.ensures) replies, c.after.ensures);
+    }
 
 pub returns-then-not-is_due-clause-stands : goal.returns-then-not-is_due-clause-stands
 returns-then-not-is_due-clause-stands c =

@@ -1,9 +1,10 @@
 use Rattle.std.proofs.Common.{◌≡◌, Some, List, sym, ap, ◌∙◌}
 use Rattle.sched_program.specs.declared.operation.OpId.{OpId}
+use Rattle.sched_program.specs.Laws.Exact.{bool_exact}
 use Rattle.lin.specs.Keys.{keys_of}
 use Rattle.lin.specs.Reply.{reply_in}
 use Rattle.lin.proofs.Places.{reply_placed}
-use Rattle.lin.proofs.Replies.{answer_means, kept_reply, not_same, same_answer}
+use Rattle.lin.proofs.Replies.{answer_means, kept_reply, not_same}
 use Rattle.lin.proofs.reply.order_with_reply.Goals as goal
 use Rattle.lin.proofs.reply.order_with_reply.Goals.{in_default-via-in-Some+else-stated-reply, in_default-via-in_default}
 
@@ -19,7 +20,7 @@ pub returns-in-Some : goal.returns-in-Some
 returns-in-Some c =
     let program = c.args.program.now in
     let order = c.args.order.now in
-    let stated : c.in-Some.stated ≡ c.args.reply = same_answer c.in-Some.stated c.args.reply c.if-stated-reply.true in
+    let stated : c.in-Some.stated ≡ c.args.reply = bool_exact c.in-Some.stated c.args.reply c.if-stated-reply.true in
     let is : reply_in program (keys_of program.initial) order c.args.name ≡ Some c.args.reply =
     ap (λ (o : List OpId). reply_in program (keys_of program.initial) o c.args.name) (sym c.as_slice.ensures)
     ∙ sym c.reply_in.ensures ∙ c.in-Some.is ∙ ap Some stated in

@@ -2,8 +2,6 @@
 use Rattle.std.proofs.Common.{◌≡◌, suc, true, ◌∷◌, drop, ap, sym, ◌∙◌, rules, drop-cons}
 use Rattle.sched_program.specs.Name.{same_name}
 use Rattle.lin.specs.KeySet.{keys_in}
-use Rattle.lin.specs.Reply.{reply_in}
-use Rattle.lin.proofs.Replies.{at_head}
 use Rattle.lin.proofs.reply.reply_in.Goals as goal
 
 pub returns-then-eq : goal.returns-then-eq
@@ -16,5 +14,4 @@ returns-then-eq c =
     let at : drop i c.args.order.now ≡ other ∷ drop (suc i) c.args.order.now =
     drop-cons c.args.order.now i other c.loop-other-test.true
     ∙ ap (λ x. x ∷ drop (suc i) c.args.order.now) (search rules) in
-    c.stated.ensures ∙ sym (at_head program c.args.name keys other (drop (suc i) c.args.order.now) same)
-    ∙ ap (λ l. reply_in program keys l c.args.name) (sym at) ∙ sym c.loop-other.invariant
+    c.stated.ensures ∙ sym (rw (at, same) at c.loop-other.invariant)

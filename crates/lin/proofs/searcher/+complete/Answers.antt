@@ -1,12 +1,13 @@
 use Rattle.std.proofs.Common.{refl, ◌≡◌, ℕ, List, [], ◌∷◌, ◌++◌, ◌∙◌, sym, ap, subst, arith, true≢false}
 use Rattle.std.proofs.Common.{append-nil}
 use Rattle.sched_program.specs.declared.operation.OpId.{OpId}
-use Rattle.lin.specs.Completion.{Listed, listed_in, Completes, EveryFinishedIsListed, IsHopeless}
+use Rattle.lin.specs.Completion.{listed_in, Completes, EveryFinishedIsListed, IsHopeless}
 use Rattle.lin.specs.KeySet.{keys_in}
 use Rattle.lin.specs.OpSet.{operations_in}
 use Rattle.lin.specs.Configuration.{IsHopelessAt}
 use Rattle.lin.proofs.Configurations.{All-found, All-kept}
-use Rattle.lin.proofs.Names.{each_more_read, each_all, IsSome-value_at_read}
+use Rattle.std.proofs.lemmas.List.{take_all}
+use Rattle.lin.proofs.Names.{each_more, IsSome-value_at}
 use Rattle.lin.proofs.Search.{once_pushed, nothing_left, found_more, not_after, popped}
 use Rattle.lin.proofs.Steps.{every_listed}
 use Rattle.lin.proofs.searcher.+complete.Goals as goal
@@ -14,36 +15,31 @@ use Rattle.lin.proofs.searcher.+complete.Goals.{in-Some+in_ok-push+in_ok-complet
 
 pub returns-then-is_within-clause-answer : goal.returns-then-is_within-clause-answer
 returns-then-is_within-clause-answer t c =
-    let history = c.args.timeline.now in
+    let within = c.is_within.ensures.0 c.if-is_within.true in
     let every =
-    (every_listed history (operations_in c.finished.result) (operations_in c.args.from.at.listed)
-    c.finished.ensures.value).0 (c.is_within.ensures.0 c.if-is_within.true) in
-    ([], sym (append-nil c.args.order.now.items), subst (EveryFinishedIsListed history) c.requires.listed every)
+    (every_listed c.args.timeline.now _ (operations_in c.args.from.at.listed) c.finished.ensures.value).0 within in (
+      [],
+      sym (append-nil c.args.order.now.items),
+      subst (EveryFinishedIsListed c.args.timeline.now) c.requires.listed every,
+    )
 
 pub returns-then-contains-clause-answer : goal.returns-then-contains-clause-answer
 returns-then-contains-clause-answer t c =
-    let program = c.args.program.now in
-    let history = c.args.timeline.now in
     let none =
-    All-found (IsHopelessAt program history) c.args.from.at c.args.failed.now.keys c.requires.failed
-    (sym c.contains.ensures ∙ c.if-contains.true) in (
-      refl {A = List OpId},
-      rw c.requires.listed at none,
-    )
+    All-found (IsHopelessAt c.args.program.now c.args.timeline.now) c.args.from.at c.args.failed.now.keys
+    c.requires.failed (sym c.contains.ensures ∙ c.if-contains.true) in
+    (refl {A = List OpId}, rw c.requires.listed at none)
 
 pub step-requires-clause-begun : goal.step-requires-clause-begun
 step-requires-clause-begun t c =
-    IsSome-value_at_read c.begun-name-items.result.now c.args.timeline.now.begun c.loop-name.name-index
-    c.loop-name-item.result c.begun-name-items.ensures.value c.loop-name-test.true c.loop-name-item.is
+    rw (← c.begun-name-items.ensures.value, c.loop-name-item.is)
+    (IsSome-value_at c.begun-name-items.result.now c.loop-name.name-index c.loop-name-item.result c.loop-name-test.true)
 
 pub complete-requires : goal.complete-requires
 complete-requires t c =
     let pushed =
-    once_pushed c.args.program.now c.args.timeline.now c.args.order.now.items c.loop-name.order.items
-    c.push.new.self.items (operations_in c.args.from.at.listed) (keys_in c.args.from.at.keys)
-    (keys_in c.in-Some.next.at.keys) c.loop-name-item.result.0 c.requires.listed c.in-Some.ensures.stands
-    c.loop-name.invariant.same c.in_ok-push.ensures.items (operations_in c.in-Some.next.at.listed)
-    c.in-Some.ensures.listed in (
+    once_pushed c.requires.listed c.in-Some.ensures.stands c.loop-name.invariant.same c.in_ok-push.ensures.items
+    (operations_in c.in-Some.next.at.listed) c.in-Some.ensures.listed in (
       rw c.decreases at pushed.0,
       (c.requires.limits, (pushed.1, (c.in-Some.ensures.barred, c.loop-name.invariant.failed))),
     )
@@ -51,10 +47,8 @@ complete-requires t c =
 pub returns-then-branch-clause-answer : goal.returns-then-branch-clause-answer
 returns-then-branch-clause-answer t c =
     let found = rw c.if-branch.true at c.in_ok-complete.ensures.answer in
-    found_more c.args.program.now c.args.timeline.now c.args.order.now.items c.loop-name.order.items
-    c.push.new.self.items (operations_in c.args.from.at.listed) (keys_in c.args.from.at.keys)
-    (keys_in c.in-Some.next.at.keys) c.loop-name-item.result.0 c.requires.listed c.in-Some.ensures.stands
-    c.loop-name.invariant.same c.in_ok-push.ensures.items c.complete.new.order.items found
+    found_more c.requires.listed c.in-Some.ensures.stands c.loop-name.invariant.same c.in_ok-push.ensures.items
+    c.complete.new.order.items found
 
 pub loop-name-preserved : goal.loop-name-preserved
 loop-name-preserved t c =
@@ -67,8 +61,8 @@ loop-name-preserved t c =
     let Fails : OpId → Type 0 =
     λ a. (rest : List OpId) → Completes program history (listed_in old) keys (a ∷ rest) → ⊥ in
     let more =
-    λ (here : Fails name). each_more_read Fails c.begun-name-items.result.now c.loop-name.name-index
-    c.loop-name-item.result c.loop-name-test.true c.loop-name-item.is here c.loop-name.invariant.tried in
+    λ (here : Fails name). each_more Fails c.begun-name-items.result.now c.loop-name.name-index
+    c.loop-name-item.result c.loop-name-test.true (rw (← c.loop-name-item.is) here) c.loop-name.invariant.tried in
     elim c.match-step.branch [
       | in-Some+in_ok-push+in_ok-complete+else-branch w ↦
           let pushed : w.push.new.self.items ≡ old ++ name ∷ [] = rw same at w.in_ok-push.ensures.items in
@@ -78,9 +72,7 @@ loop-name-preserved t c =
                 (λ some. w.pop.ensures.variant.1 (omega (arith, w.complete.new.order.ok.0, some)));
             failed = rw w.failed-is w.in_ok-complete.ensures.failed;
             tried = more
-                (not_after program history old c.loop-name.order.items w.push.new.self.items
-                (operations_in c.args.from.at.listed) keys (keys_in w.in-Some.next.at.keys) name c.requires.listed
-                w.in-Some.ensures.stands same w.in_ok-push.ensures.items none.1);
+                (not_after c.requires.listed w.in-Some.ensures.stands same w.in_ok-push.ensures.items none.1);
           }
       | in_default w ↦ record {
         same = ap (λ v. v.items) w.order-is ∙ same;
@@ -92,30 +84,20 @@ loop-name-preserved t c =
 hopeless : {t : ℕ} (c : goal.In_ok-insert t)
     → IsHopeless c.args.program.now c.args.timeline.now (listed_in c.args.order.now.items) (keys_in c.args.from.at.keys)
 hopeless {t} c =
-    let program = c.args.program.now in
     let history = c.args.timeline.now in
-    let old = c.args.order.now.items in
-    let keys = keys_in c.args.from.at.keys in
-    let Fails : OpId → Type 0 =
-    λ a. (rest : List OpId) → Completes program history (listed_in old) keys (a ∷ rest) → ⊥ in
-    let listed : Listed = operations_in c.args.from.at.listed in
-    let missing = λ (every : EveryFinishedIsListed history (listed_in old)).
-    true≢false
-    (sym (c.is_within.ensures.1
-    ((every_listed history (operations_in c.finished.result) listed c.finished.ensures.value).1
-    (subst (EveryFinishedIsListed history) (sym c.requires.listed) every))) ∙ c.if-is_within.false) in
-    nothing_left program history (listed_in old) keys missing
-    (each_all Fails c.begun-name-items.result.now history.begun c.loop-name.name-index c.begun-name-items.ensures.value
-    c.loop-name-test.false c.loop-name.invariant.tried)
+    let order = c.args.order.now.items in
+    let listed = every_listed history _ (operations_in c.args.from.at.listed) c.finished.ensures.value in
+    let missing = λ (every : EveryFinishedIsListed history (listed_in order)).
+    true≢false (sym (c.is_within.ensures.1 (listed.1 (subst (EveryFinishedIsListed history)
+    (sym c.requires.listed) every))) ∙ c.if-is_within.false) in
+    let all = take_all c.loop-name.name-index c.begun-name-items.result.now c.loop-name-test.false in
+    nothing_left c.args.program.now history (listed_in order) (keys_in c.args.from.at.keys) missing
+    (λ a begun. c.loop-name.invariant.tried a (rw (all, c.begun-name-items.ensures.value) begun))
 
 pub returns-clause-answer : goal.returns-clause-answer
 returns-clause-answer t c = (c.loop-name.invariant.same, hopeless c)
 
 pub returns-clause-failed : goal.returns-clause-failed
 returns-clause-failed t c =
-    let program = c.args.program.now in
-    let history = c.args.timeline.now in
-    let here : IsHopelessAt program history c.args.from.at =
-    rw c.requires.listed (hopeless c) in
-    All-kept (IsHopelessAt program history) c.args.from.at c.loop-name.failed c.insert.new.self c.in_ok-insert.field-0
-    c.in_ok-insert.ensures.keys here c.loop-name.invariant.failed
+    All-kept (IsHopelessAt c.args.program.now c.args.timeline.now) c.args.from.at c.loop-name.failed c.insert.new.self
+    c.in_ok-insert.field-0 c.in_ok-insert.ensures.keys (rw c.requires.listed (hopeless c)) c.loop-name.invariant.failed

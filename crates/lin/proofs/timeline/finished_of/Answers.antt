@@ -7,15 +7,12 @@ use Rattle.lin.proofs.timeline.finished_of.Goals as goal
 abbrev nothing : OpId × Bool
 nothing = (record { thread = 0; index = 0 }, false)
 
-pub with-set-requires-clause-thread : goal.with-set-requires-clause-thread
-with-set-requires-clause-thread c =
-    (finished_has_place c.args.history.now c.finished-name-items.ensures.events c.finished-name-items.result.now
-    c.loop-name.name-index nothing c.finished-name-items.ensures.value c.loop-name-test.true).0
-
-pub with-set-requires-clause-index : goal.with-set-requires-clause-index
-with-set-requires-clause-index c =
-    (finished_has_place c.args.history.now c.finished-name-items.ensures.events c.finished-name-items.result.now
-    c.loop-name.name-index nothing c.finished-name-items.ensures.value c.loop-name-test.true).1
+pub with-set-requires : goal.with-set-requires
+with-set-requires c =
+    let has =
+    finished_has_place c.args.history.now c.finished-name-items.ensures.events c.finished-name-items.result.now
+    c.loop-name.name-index nothing c.finished-name-items.ensures.value c.loop-name-test.true in
+    record { thread = has.0; index = has.1 }
 
 pub loop-name-preserved : goal.loop-name-preserved
 loop-name-preserved c =

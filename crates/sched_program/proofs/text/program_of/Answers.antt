@@ -1,7 +1,8 @@
 use Rattle.std.proofs.Common.{rules, ◌≢◌, ◌∷◌, [], AllPairs}
 use Rattle.serde_json.specs.View.{view}
 use Rattle.sched_program.specs.declared.fault.ProgramFault.TheVariants as fault
-use Rattle.sched_program.proofs.Members.{not_distinct, keys_bounded, limits_met, passes_to_threads, threads_pass}
+use Rattle.sched_program.specs.Faults.{Passes}
+use Rattle.sched_program.proofs.Members.{not_distinct, limits_met, passes_to_threads, threads_pass}
 use Rattle.sched_program.proofs.text.program_of.Goals as goal
 
 pub returns-then-not-is_distinct-clause-err : goal.returns-then-not-is_distinct-clause-err
@@ -10,16 +11,12 @@ returns-then-not-is_distinct-clause-err c =
     let initial = c.in_ok-initial.ensures.ok in
     record {
       stands = not_distinct value c.in_ok-initial.initial initial.0 (search rules);
-      first = (
-        search rules,
-        (
-          (c.in-Some.version, c.in-Some.ensures.found),
-          (
-            (c.in-Some-tree_of.tree, c.in-Some-tree_of.ensures.found),
-            (keys_bounded value c.in_ok-initial.initial initial.0 initial.1, tt),
-          ),
-        ),
-      );
+      first =
+          let short : Passes value fault.Initial =
+          (initial.0.0, initial.0.1, (c.in_ok-initial.initial, initial.0.2, initial.1)) in
+          let version : Passes value fault.Version = (c.in-Some.version, c.in-Some.ensures.found) in
+          let tree : Passes value fault.Tree = (c.in-Some-tree_of.tree, c.in-Some-tree_of.ensures.found) in
+          (search rules, (version, (tree, (short, tt))));
     }
 
 pub returns-in_default-2-clause-err : goal.returns-in_default-2-clause-err

@@ -5,20 +5,20 @@ use Rattle.sched_program.proofs.turns.turns_of.Goals as goal
 
 pub returns-in-First-clause-none : goal.returns-in-First-clause-none
 returns-in-First-clause-none c =
-    none_listed c.args.version version.First (view c.args.value.now) (view c.in-Some.threads.now) c.read.result
-    c.in-First.is c.in-Some.ensures c.read.ensures.none
+    none_listed c.args.version version.First (view c.args.value.now) _ _ c.in-First.is c.in-Some.ensures
+    c.read.ensures.none
 
 pub returns-in-Second-clause-none : goal.returns-in-Second-clause-none
 returns-in-Second-clause-none c =
-    none_listed c.args.version version.Second (view c.args.value.now) (view c.in-Some.threads.now)
-    c.read-in-Second.result c.in-Second.is c.in-Some.ensures c.read-in-Second.ensures.none
+    none_listed c.args.version version.Second (view c.args.value.now) _ _ c.in-Second.is c.in-Some.ensures
+    c.read-in-Second.ensures.none
 
 pub returns-in-First-clause-found : goal.returns-in-First-clause-found
 returns-in-First-clause-found c =
-    listed c.args.version version.First (view c.args.value.now) (view c.in-Some.threads.now) c.read.result
-    c.in-First.is c.in-Some.ensures c.read.ensures.found
+    listed c.args.version version.First (view c.args.value.now) _ _ c.in-First.is c.in-Some.ensures
+    c.read.ensures.found
 
 pub returns-in-Second-clause-found : goal.returns-in-Second-clause-found
 returns-in-Second-clause-found c =
-    listed c.args.version version.Second (view c.args.value.now) (view c.in-Some.threads.now) c.read-in-Second.result
-    c.in-Second.is c.in-Some.ensures c.read-in-Second.ensures.found
+    listed c.args.version version.Second (view c.args.value.now) _ _ c.in-Second.is c.in-Some.ensures
+    c.read-in-Second.ensures.found

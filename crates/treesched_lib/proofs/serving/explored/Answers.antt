@@ -1,12 +1,9 @@
-use Rattle.std.proofs.Common.{◌∙◌, ap, refl, subst, sym}
+use Rattle.std.proofs.Common.{refl, sym}
 use Rattle.std.proofs.lemmas.Result.{IfOk-weaker}
 use Rattle.book.specs.Books.{CountsAsOne}
 use Rattle.replay.specs.Findings.{machine_of, IsFindingOf}
 use Rattle.book.specs.Law.{IsLawfulBook}
-use Rattle.book.specs.declared.book.Totals.{Totals}
-use Rattle.crew.specs.Due.{IsDue}
 use Rattle.crew.proofs.Ends.{given_merge}
-use Rattle.treesched_lib.specs.Lines.{report_text}
 use Rattle.treesched_lib.proofs.Given.{closed}
 use Rattle.treesched_lib.proofs.serving.explored.Goals as goal
 
@@ -29,21 +26,15 @@ returns g c =
       law = law;
       asked = record { machine = refl; program = kept.program; limit = kept.limit; merge = kept.merge };
       answer = report.answer;
-      due = subst
-          (λ (t : Totals). IsDue
-          (machine_of {Machine = g.row.M.Denot} {Form = g.row.M-Form.Denot} (rules c.args.machine) program)
-          (CountsAsOne (rules c.args.machine) asked.merge) (IsFindingOf (rules c.args.machine) program) asked.merge
-          asked.steps asked.limit t.entries report.answer) kept.totals kept.due;
+      due = rw kept.totals at kept.due;
       headline = kept.headline;
       first = kept.first;
       closed = kept.closed;
       shares = report.shares.items;
       workers = kept.shares;
-      sums = kept.ledger
-          ∙ ap (λ (t : Totals). record { expanded = t.expanded; entered = t.entered; met = t.met }) kept.totals;
+      sums = rw kept.totals at kept.ledger;
       status = printed.0;
-      out = printed.1
-          ∙ ap (λ (t : Totals). report_text c.args.ledger report.answer t report.shares.items) kept.totals;
+      out = rw kept.totals at printed.1;
       err = printed.2;
       file = rw (sym kept.machine, sym kept.program) printed.3;
     })

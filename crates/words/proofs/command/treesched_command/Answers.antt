@@ -12,16 +12,10 @@ returns c =
     let top : app_of c.subcommand_required.result ≡ line.wanting_subcommand (new_app (codes "treesched")) =
     ap app_of_fields c.subcommand_required.ensures ∙ ap line.wanting_subcommand named in
     let line = c.in_ok-explore.ensures.app in
-    let explore : app_of c.in_ok-subcommand.field-0 ≡ _ = c.in_ok-subcommand.ensures.shape c.in_ok-explore.ensures.local
-    ∙ ap₂ with_subcommand top (ap (λ (a : App). a.top) line.2) in
-    let replay : app_of c.in_ok-subcommand-2.field-0 ≡ _ =
-    c.in_ok-subcommand-2.ensures.shape c.in_ok-replay.ensures.local
-    ∙ ap₂ with_subcommand explore (ap (λ (a : App). a.top) c.in_ok-replay.ensures.app) in
+    let subcommand = λ (a b : App). with_subcommand a b.top in
+    let explore = c.in_ok-subcommand.ensures.shape c.in_ok-explore.ensures.local ∙ ap₂ subcommand top line.2 in
+    let replay = c.in_ok-subcommand-2.ensures.shape c.in_ok-replay.ensures.local
+    ∙ ap₂ subcommand explore c.in_ok-replay.ensures.app in
     IfOk-weaker c.subcommand-3.result _ _
-    (λ m h. (
-      line.0,
-      line.1,
-      h.shape c.in_ok-check.ensures.local
-          ∙ ap₂ with_subcommand replay (ap (λ (a : App). a.top) c.in_ok-check.ensures.app),
-    ))
+    (λ m h. (line.0, line.1, h.shape c.in_ok-check.ensures.local ∙ ap₂ subcommand replay c.in_ok-check.ensures.app))
     c.subcommand-3.ensures

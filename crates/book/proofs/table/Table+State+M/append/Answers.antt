@@ -1,12 +1,9 @@
-use Rattle.std.proofs.Common.{◌≡◌, ◌<◌, true, false, None, Some, Option, is_some, not, length, map}
-use Rattle.std.proofs.Common.{position, sym, ap, ◌∙◌, arith, refl, subst, List, true≢false, inr}
+use Rattle.std.proofs.Common.{◌≡◌, ◌<◌, true, false, Bool, None, Some, Option, is_some, not, length, map}
+use Rattle.std.proofs.Common.{position, sym, ap, ◌∙◌, arith, refl, true≢false, inr}
 use Rattle.tree_machine.specs.Step.{step}
-use Rattle.tree_machine.specs.declared.state.State.{State}
-use Rattle.book.specs.Entries.{Entry, At, opened, states}
-use Rattle.book.specs.Unknown.{unknown}
+use Rattle.book.specs.Entries.{Entry, opened}
 use Rattle.replay.specs.Findings.{is_sound}
-use Rattle.book.specs.Labels.{same_label}
-use Rattle.book.specs.Slots.{entries_of, labels_of, keyed_of}
+use Rattle.book.specs.Slots.{entries_of, labels_of}
 use Rattle.book.proofs.SlotLemmas.{length-entries}
 use Rattle.book.proofs.Cursors.{all_sound, cursors_appended, fault-append}
 use Rattle.book.proofs.Labels.{appended_known, appended_length, appended_some}
@@ -21,55 +18,36 @@ some_of : {X : Type 0} (o : Option X) → is_some o ≡ true → (x : X) × (o �
 some_of None h = absurd (true≢false (sym h))
 some_of (Some x) h = (x, refl)
 
+abbrev is_unsound : {S : Type 0} → Entry S → Bool
+is_unsound e = not (is_sound e.finding)
+
 pub first_fault_from-self-inside-requires : goal.first_fault_from-self-inside-requires
 first_fault_from-self-inside-requires g c =
     let s = c.self.inside in
-    let es : List (Entry (State g.row.M.Denot g.row.M-Mem.Denot g.row.M-Loc.Denot g.row.M-Form.Denot)) = entries_of
-    s.slots.entries in
-    let some =
-    appended_some s.slots.entries c.put_steps.new.slots.entries c.args.parent
-    (unknown same_label (states (map keyed_of s.slots.entries)) c.args.steps.items) c.put_steps.ensures.kept
-    c.in-Ok.ensures.put in
-    let l : length es ≡ length s.slots.entries = length-entries s.slots.entries in
-    let n : c.len-was.result ≡ length s.slots.entries = c.len-was.ensures.len in
-    let none : position
-    (λ (e : Entry (State g.row.M.Denot g.row.M-Mem.Denot g.row.M-Loc.Denot g.row.M-Form.Denot)). not
-    (is_sound e.finding)) es ≡ None =
-    sym c.self.invariant.first_fault ∙ none_of c.self.inside.fault c.if-is_none.ensures in
-    λ i e at less. all_sound es (map (opened c.args.parent) some.0) none i e
-    (subst (λ (xs : List (Entry (State g.row.M.Denot g.row.M-Mem.Denot g.row.M-Loc.Denot g.row.M-Form.Denot))). At xs i
-    e) some.1 at)
-    (omega arith)
+    let some = appended_some s.slots.entries _ c.args.parent _ c.put_steps.ensures.kept c.in-Ok.ensures.put in
+    let l = length-entries s.slots.entries in
+    let n = c.len-was.ensures.len in
+    λ i e at less. all_sound (entries_of s.slots.entries) (map (opened c.args.parent) some.0)
+    (sym c.self.invariant.first_fault ∙ none_of s.fault c.if-is_none.ensures)
+        i e (rw some.1 at at) (omega (arith, l, n))
 
 pub invariant_of-self-then-is_none : goal.invariant_of-self-then-is_none
 invariant_of-self-then-is_none g c =
     let s = c.self.inside in
-    let some =
-    appended_some s.slots.entries c.put_steps.new.slots.entries c.args.parent
-    (unknown same_label (states (map keyed_of s.slots.entries)) c.args.steps.items) c.put_steps.ensures.kept
-    c.in-Ok.ensures.put in
+    let some = appended_some s.slots.entries _ c.args.parent _ c.put_steps.ensures.kept c.in-Ok.ensures.put in
     rw some.1 (cursors_appended (entries_of s.slots.entries) s.next_open s.first_left s.fault c.self.invariant
     c.args.parent some.0 c.first_fault_from-self-inside.result
-    (c.first_fault_from-self-inside.ensures
-    ∙ ap (position
-    (λ (e : Entry (State g.row.M.Denot g.row.M-Mem.Denot g.row.M-Loc.Denot g.row.M-Form.Denot)). not
-    (is_sound e.finding))) some.1))
+    (c.first_fault_from-self-inside.ensures ∙ ap (position is_unsound) some.1))
 
 pub invariant_of-self-else-is_none : goal.invariant_of-self-else-is_none
 invariant_of-self-else-is_none g c =
     let s = c.self.inside in
-    let some =
-    appended_some s.slots.entries c.put_steps.new.slots.entries c.args.parent
-    (unknown same_label (states (map keyed_of s.slots.entries)) c.args.steps.items) c.put_steps.ensures.kept
-    c.in-Ok.ensures.put in
+    let some = appended_some s.slots.entries _ c.args.parent _ c.put_steps.ensures.kept c.in-Ok.ensures.put in
     let is = some_of s.fault c.if-is_none.ensures in
-    let first : position
-    (λ (e : Entry (State g.row.M.Denot g.row.M-Mem.Denot g.row.M-Loc.Denot g.row.M-Form.Denot)). not
-    (is_sound e.finding)) (entries_of s.slots.entries) ≡ Some is.0 =
-    sym c.self.invariant.first_fault ∙ is.1 in
     rw some.1 (cursors_appended (entries_of s.slots.entries) s.next_open s.first_left s.fault c.self.invariant
     c.args.parent some.0 s.fault
-    (is.1 ∙ sym (fault-append (entries_of s.slots.entries) (map (opened c.args.parent) some.0) is.0 first)))
+    (is.1 ∙ sym (fault-append (entries_of s.slots.entries) (map (opened c.args.parent) some.0) is.0
+    (sym c.self.invariant.first_fault ∙ is.1))))
 
 pub returns-then-len-limit-clause-refused : goal.returns-then-len-limit-clause-refused
 returns-then-len-limit-clause-refused g c = inr (

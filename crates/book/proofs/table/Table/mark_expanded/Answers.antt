@@ -1,8 +1,6 @@
-use Rattle.std.proofs.Common.{◌≤◌, length, sym, ap, arith, subst, List}
+use Rattle.std.proofs.Common.{◌≤◌, length, ap, arith}
 use Rattle.book.specs.declared.entry.Mark.TheVariants.{Expanded}
-use Rattle.book.specs.Entries.{Entry, IsTaken, with_mark}
-use Rattle.book.specs.Labels.{Kept}
-use Rattle.book.specs.Slots.{entries_of, IsFirstLeft}
+use Rattle.book.specs.Slots.{entries_of}
 use Rattle.book.proofs.EntryLemmas.{length-with_mark}
 use Rattle.book.proofs.SlotLemmas.{length-entries}
 use Rattle.book.proofs.Cursors.{still_expanded, cursors_expanded}
@@ -26,12 +24,7 @@ first_left_from-self-inside-requires-clause-within g c =
 pub invariant_of-self : goal.invariant_of-self
 invariant_of-self g c =
     let s = c.self.inside in
-    let es : List (Entry g.row.S.Denot) = entries_of s.slots.entries in
-    let taken : IsTaken es c.args.index =
-    subst (λ (k : Kept g.row.S.Denot). IsTaken k.entries c.args.index) (sym c.self.view_is) c.requires in
-    let is_left : IsFirstLeft (with_mark es c.args.index Expanded) c.first_left_from-self-inside.result =
-    subst (λ (ds : List (Entry g.row.S.Denot)). IsFirstLeft ds c.first_left_from-self-inside.result)
-    c.mark_at.ensures.entries c.first_left_from-self-inside.ensures in
     rw c.mark_at.ensures.entries
-    (cursors_expanded es s.next_open s.first_left s.fault c.self.invariant c.args.index taken
-    c.first_left_from-self-inside.result is_left)
+    (cursors_expanded (entries_of s.slots.entries) s.next_open s.first_left s.fault c.self.invariant c.args.index
+    (rw (← c.self.view_is) at c.requires) c.first_left_from-self-inside.result
+    (rw c.mark_at.ensures.entries at c.first_left_from-self-inside.ensures))

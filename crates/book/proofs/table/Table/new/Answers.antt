@@ -1,10 +1,7 @@
-use Rattle.std.proofs.Common.{◌≡◌, ℕ, ◌∷◌, ◌++◌, [], refl, None, Some, cond, sym, ap, ◌∙◌, List}
-use Rattle.std.specs.List.{list_any}
-use Rattle.std.specs.Map.{keys_of}
+use Rattle.std.proofs.Common.{◌≡◌, ◌∷◌, [], refl, None, Some, cond, sym, ap, ◌∙◌}
 use Rattle.book.specs.declared.entry.Mark.TheVariants.{Open}
 use Rattle.book.specs.Entries.{Entry}
 use Rattle.replay.specs.Findings.{is_sound}
-use Rattle.book.specs.Labels.{same_label}
 use Rattle.book.specs.Slots.{entries_of}
 use Rattle.book.proofs.Cursors.{cursors_one, fault_of_one}
 use Rattle.book.proofs.table.Table.new.Goals as goal
@@ -16,15 +13,9 @@ invariant_of-result g c =
     record { state = c.args.shown.value; finding = c.args.finding; origin = None; mark = Open } in
     let empty : c.new-slots.result.entries ≡ [] = c.new-slots.ensures.empty in
     let one : c.put_new.new.slots.entries ≡ (c.args.label, e) ∷ [] =
-    c.in_ok-put_new.ensures.put
-    ∙ (ap (λ (es : List (List ℕ × Entry g.row.S.Denot)). es
-    ++ cond (list_any (same_label c.args.label) (keys_of es)) []
-    ((c.args.label, c.open-row.result) ∷ [])) empty
-    ∙ ap (λ (row : Entry g.row.S.Denot). (c.args.label, row) ∷ []) c.open-row.ensures) in
+    rw (empty, c.open-row.ensures) at c.in_ok-put_new.ensures.put in
     let fault : c.if-is_sound.fault ≡ cond (is_sound c.args.finding) None (Some 0) = (elim c.if-is_sound.branch [
-      | then-is_sound w ↦ w.fault-is ∙ ap (λ b. cond b None (Some 0))
-          (sym (sym c.is_sound.ensures ∙ w.if-is_sound.true))
-      | else-is_sound w ↦ w.fault-is ∙ ap (λ b. cond b None (Some 0))
-          (sym (sym c.is_sound.ensures ∙ w.if-is_sound.false))
+      | then-is_sound w ↦ rw (← c.is_sound.ensures, w.if-is_sound.true) w.fault-is
+      | else-is_sound w ↦ rw (← c.is_sound.ensures, w.if-is_sound.false) w.fault-is
     ]) in
     rw (ap entries_of one) (cursors_one e refl c.if-is_sound.fault (fault ∙ sym (fault_of_one e)))
