@@ -29,7 +29,7 @@ first_fault_from-self-inside-requires g c =
     let n = c.len-was.ensures.len in
     λ i e at less. all_sound (entries_of s.slots.entries) (map (opened c.args.parent) some.0)
     (sym c.self.invariant.first_fault ∙ none_of s.fault c.if-is_none.ensures)
-        i e (rw some.1 at at) (omega (arith, l, n))
+    i e (rw some.1 at at) (omega (arith, l, n))
 
 pub invariant_of-self-then-is_none : goal.invariant_of-self-then-is_none
 invariant_of-self-then-is_none g c =
