@@ -8,8 +8,8 @@ use Rattle.tree_machine.specs.Graphs.{numbers_from}
 use Rattle.tree_machine.specs.Parts.{Part, Parts, part_at, parts_graph, parts_held}
 use Rattle.tree_machine.specs.Flat.{number_code, reference_number, cell_code, part_content}
 
--- how many nodes and records it may number, those that have numbers, in the order of these, the cells that were
--- numbered in this walk, where records come behind the nodes, and the bytes
+-- how many nodes and records there are, those that have numbers, in the order of their numbers, the cells that got
+-- theirs in this walk (records come behind the nodes), and the bytes
 pub record Coding : Type 0 where
   pub nodes_below : ℕ
   pub records_below : ℕ

@@ -321,7 +321,8 @@ impl Coder {
         ensures small { (nodes < 255) × (records < 255) }
     {
         let place = self.out.len();
-        self.out.put_counts(nodes as u8, records as u8)?;
+        self.out.put_byte(nodes as u8)?;
+        self.out.put_byte(records as u8)?;
         Ok(place)
     }
 

@@ -39,7 +39,7 @@ pub(crate) fn put_number(bytes: &mut Vec<u8>, number: u64) -> Result<(), OutOfMe
 /// Appends a number that may be large, as `put_number` does.
 #[cold]
 #[inline(never)]
-fn put_large(bytes: &mut Vec<u8>, number: u64) -> Result<(), OutOfMemory>
+pub(crate) fn put_large(bytes: &mut Vec<u8>, number: u64) -> Result<(), OutOfMemory>
     ensures written { OnOk result (bytes.new.items ≡ bytes.old.items ++ number_code number) }
     ensures longer { length bytes.old.items ≤ length bytes.new.items }
 {

@@ -5,7 +5,7 @@ ghost use Rattle.std.specs.List.{flat_map};
 ghost use Rattle.tree_machine.specs.Flat.{number_code, short_head, long_code, facts_code};
 
 use crate::fixed::{put_byte, put_number_byte};
-use crate::number::put_number;
+use crate::number::{put_large, put_number};
 use sched_program::OutOfMemory;
 use std::alloc::Global;
 use std::marker::Model;
@@ -201,20 +201,10 @@ impl Output {
         ensures { OnOk result (self.new ≡ self.old ++ number_code number) }
     {
         if number < 255 {
-            self.put_byte(number as u8)
-        } else {
-            self.put_large(number)
+            return self.put_byte(number as u8);
         }
-    }
-
-    /// Appends a number of any size.
-    #[cold]
-    #[inline(never)]
-    fn put_large(&mut self, number: u64) -> Result<(), OutOfMemory>
-        ensures { OnOk result (self.new ≡ self.old ++ number_code number) }
-    {
         self.bytes.truncate(self.at);
-        put_number(&mut self.bytes, number)?;
+        put_large(&mut self.bytes, number)?;
         self.at = self.bytes.len();
         Ok(())
     }
@@ -231,18 +221,6 @@ impl Output {
         }
         self.bytes.as_mut_slice()[self.at..end].copy_from_slice(bytes);
         self.at = end;
-        Ok(())
-    }
-
-    /// Appends a count of nodes and one of records.
-    #[inline(always)]
-    pub(crate) fn put_counts(&mut self, nodes: u8, records: u8) -> Result<(), OutOfMemory>
-        ensures { OnOk result (self.new ≡ self.old ++ (nodes ∷ records ∷ [])) }
-    {
-        make_room(&mut self.bytes, self.at)?;
-        let slice = self.bytes.as_mut_slice();
-        let behind = put_byte(slice, self.at, nodes);
-        self.at = put_byte(slice, behind, records);
         Ok(())
     }
 

@@ -184,6 +184,7 @@ fn visit_behind<P: Parts>(
     ensures { OnOk result (coder.new.bytes ≡ coder.old.bytes
         ++ behind_code (canonical_front fixed (P.parts parts.now)) (canonical_parts fixed (P.parts parts.now))) }
 {
+    // Only the contract speaks of it.
     let _ = fixed;
     let first = Counts {
         nodes: coder.node_count(),
@@ -372,7 +373,7 @@ pub fn write_parts_behind<P: Parts>(
 /// exactly if some pairing pairs the parts that they are of.
 ///
 /// # Errors
-/// `OutOfMemory` as `write_canonical`.
+/// `OutOfMemory` as `write_parts`.
 pub fn form_parts<P: Parts>(alloc: Global, fixed: usize, parts: &P) -> Result<Bytes, OutOfMemory>
     requires { ArePartsInRange fixed (P.parts parts.now) }
     ensures form { IfOk result (λ form. form ≡ canonical_code fixed (P.parts parts.now)) }
