@@ -17,29 +17,6 @@ pub(crate) struct Decoded<M: Encode> {
     pub(crate) ghost read: { AreOffsetsOf M.front_code M.behind_code label.items offsets state.value },
 }
 
-/// Decodes the code of a state into the place of another one. If `known` is given, `own` is that
-/// one's own code, whose parts have these offsets: then the memory is decoded only where the new
-/// code has a different one. States that are decoded one after the other mostly have the same
-/// memory.
-#[inline(always)]
-fn read_code<M: Encode>(
-    alloc: Global,
-    machine: M,
-    bytes: &[u8],
-    own: &[u8],
-    known: Option<CodeOffsets>,
-    state: &mut State<M>,
-) -> Result<Option<CodeOffsets>, OutOfMemory>
-    requires { IfSome known (λ offsets. AreOffsetsOf M.front_code M.behind_code own.now offsets state.old) }
-    ensures { IfOk result (λ o. IfSome o
-        (λ offsets. AreOffsetsOf M.front_code M.behind_code bytes.now offsets state.new)) }
-{
-    match known {
-        Some(offsets) => state.read_after(alloc, machine, bytes, own, offsets),
-        None => state.read_in(alloc, machine, bytes),
-    }
-}
-
 /// Decodes a label into the place of another state, and copies it into `list`. The result counts as
 /// one with each state that has this label in a book of either merge. It may always return none. If
 /// `known` is given, `list` holds the other state's own code, whose parts have these offsets.
@@ -55,7 +32,11 @@ pub(crate) fn decode<M: Encode>(
     ensures { IfOk result (λ o. IfSome o (λ d. IsRead M.front_code M.behind_code M.own_code M.form_code
         (M.form_of machine) (M.rules machine) label.now d.offsets d.state.value)) }
 {
-    let read = read_code(alloc, machine, label, list.as_slice(), known, &mut *state)?;
+    let last = match known {
+        Some(offsets) => Some((list.as_slice(), offsets)),
+        None => None,
+    };
+    let read = state.decode(alloc, machine, label, last)?;
     state.decoded_law(machine);
     let Some(offsets) = read else {
         return Ok(None);

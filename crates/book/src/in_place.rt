@@ -71,7 +71,7 @@ fn put_step_here<M: Encode>(
     let naming = naming(from.key.merge);
     let buffer = &mut scratch.buffer;
     let label = state.label_after(alloc, from.key.machine, naming, &origin, buffer, spare)?;
-    state.take_back(alloc, &source, thread, &mut scratch.undo);
+    state.take_back(&source, thread, &mut scratch.undo);
     steps.push_reserved(Successor {
         thread,
         state: Label::new(label),

@@ -103,12 +103,7 @@ impl Encode for Straying {
 
     ghost behind_code = { λ _. straying_form };
 
-    fn copy_mem_into(
-        &self,
-        _alloc: Global,
-        mem: &bool,
-        copy: &mut bool,
-    ) -> Result<(), OutOfMemory> {
+    fn copy_mem_into(&self, mem: &bool, copy: &mut bool) -> Result<(), OutOfMemory> {
         *copy = *mem;
         Ok(())
     }
@@ -141,13 +136,11 @@ impl Encode for Straying {
     }
 
     /// It decodes nothing, as a machine may for any bytes.
-    fn read_code(
+    fn read_front<'a>(
         &self,
-        _alloc: Global,
-        _bytes: &[u8],
+        _bytes: &'a [u8],
         _mem: &mut bool,
-        _threads: &mut [Thread<bool>],
-    ) -> Result<Option<(usize, Front)>, OutOfMemory> {
+    ) -> Result<Option<(Front, &'a [u8])>, OutOfMemory> {
         Ok(None)
     }
 

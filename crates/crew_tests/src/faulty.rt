@@ -113,12 +113,7 @@ impl Encode for Faulty {
 
     ghost behind_code = { λ _. faulty_form };
 
-    fn copy_mem_into(
-        &self,
-        _alloc: Global,
-        mem: &bool,
-        copy: &mut bool,
-    ) -> Result<(), OutOfMemory> {
+    fn copy_mem_into(&self, mem: &bool, copy: &mut bool) -> Result<(), OutOfMemory> {
         *copy = *mem;
         Ok(())
     }
@@ -151,13 +146,11 @@ impl Encode for Faulty {
     }
 
     /// It decodes nothing, as a machine may for any bytes.
-    fn read_code(
+    fn read_front<'a>(
         &self,
-        _alloc: Global,
-        _bytes: &[u8],
+        _bytes: &'a [u8],
         _mem: &mut bool,
-        _threads: &mut [Thread<bool>],
-    ) -> Result<Option<(usize, Front)>, OutOfMemory> {
+    ) -> Result<Option<(Front, &'a [u8])>, OutOfMemory> {
         Ok(None)
     }
 

@@ -5,7 +5,7 @@ use crate::initial::build;
 use crate::memory::{EllenMem, key_in};
 use crate::memory_view::MemoryView;
 use crate::place::{EllenLoc, HelpLoc, SearchLoc};
-use crate::reading::{read_all, read_behind};
+use crate::reading::{read_behind, read_front};
 use crate::searching::search_act;
 use sched_program::{Op, OutOfMemory};
 use std::alloc::Global;
@@ -115,13 +115,8 @@ impl Encode for Ellen {
     ghost behind_code = { ellen_behind_code };
 
     #[inline(always)]
-    fn copy_mem_into(
-        &self,
-        alloc: Global,
-        mem: &EllenMem,
-        copy: &mut EllenMem,
-    ) -> Result<(), OutOfMemory> {
-        mem.copy_into(alloc, copy)
+    fn copy_mem_into(&self, mem: &EllenMem, copy: &mut EllenMem) -> Result<(), OutOfMemory> {
+        mem.copy_into(copy)
     }
 
     #[inline(always)]
@@ -165,14 +160,12 @@ impl Encode for Ellen {
         write_parts_behind(naming, 1, front, &view, buffer)
     }
 
-    fn read_code(
+    fn read_front<'a>(
         &self,
-        alloc: Global,
-        bytes: &[u8],
+        bytes: &'a [u8],
         mem: &mut EllenMem,
-        threads: &mut [Thread<EllenLoc>],
-    ) -> Result<Option<(usize, Front)>, OutOfMemory> {
-        read_all(alloc, bytes, mem, threads)
+    ) -> Result<Option<(Front, &'a [u8])>, OutOfMemory> {
+        read_front(bytes, mem)
     }
 
     fn read_behind(

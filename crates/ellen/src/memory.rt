@@ -363,11 +363,11 @@ impl EllenMem {
 
     /// Makes another memory equal to this one. It reuses that one's buffers where they are large enough.
     #[inline(always)]
-    pub(crate) fn copy_into(&self, alloc: Global, copy: &mut EllenMem) -> Result<(), OutOfMemory>
+    pub(crate) fn copy_into(&self, copy: &mut EllenMem) -> Result<(), OutOfMemory>
         ensures { OnOk result (copy.new ≡ self.now) }
     {
-        copy_into(alloc, self.nodes.as_slice(), &mut copy.nodes)?;
-        copy_into(alloc, self.records.as_slice(), &mut copy.records)
+        copy_into(self.nodes.as_slice(), &mut copy.nodes)?;
+        copy_into(self.records.as_slice(), &mut copy.records)
     }
 }
 

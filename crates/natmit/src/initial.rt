@@ -32,11 +32,11 @@ fn empty_tree(alloc: Global) -> Result<NatMitMem, OutOfMemory>
 }
 
 /// Inserts a key at the leaf that a search for it reaches.
-fn put_in(alloc: Global, mem: &mut NatMitMem, key: u8) -> Result<(), OutOfMemory>
+fn put_in(mem: &mut NatMitMem, key: u8) -> Result<(), OutOfMemory>
     ensures { IfOk result (λ _. mem.new ≡ put_in mem.old key) }
 {
     let end = search_end(mem, key, mem.nodes.len());
-    mem.put_at(alloc, key, end.parent, end.leaf)
+    mem.put_at(key, end.parent, end.leaf)
 }
 
 /// The memory with these keys, inserted in this order.
@@ -45,7 +45,7 @@ pub(crate) fn build(alloc: Global, initial: &[u8]) -> Result<NatMitMem, OutOfMem
 {
     let mut mem = empty_tree(alloc)?;
     for key in initial {
-        put_in(alloc, &mut mem, *key)?;
+        put_in(&mut mem, *key)?;
     }
     Ok(mem)
 }

@@ -11,7 +11,7 @@ use crate::initial::build;
 use crate::memory::{NatMitMem, key_in};
 use crate::memory_view::MemoryView;
 use crate::place::{Mode, NatMitLoc};
-use crate::reading::{read_all, read_behind};
+use crate::reading::{read_behind, read_front};
 use sched_program::{Op, OutOfMemory};
 use std::alloc::Global;
 use tree_machine::{
@@ -55,12 +55,12 @@ impl Machine for NatMit {
 
     fn act(
         &self,
-        alloc: Global,
+        _alloc: Global,
         op: Op,
         loc: &NatMitLoc,
         mem: &mut NatMitMem,
     ) -> Result<Outcome<NatMitLoc>, OutOfMemory> {
-        self.access(alloc, op, *loc, mem)
+        self.access(op, *loc, mem)
     }
 
     fn ordered(&self, mem: &NatMitMem) -> bool {
@@ -100,13 +100,8 @@ impl Encode for NatMit {
     ghost behind_code = { natmit_behind_code };
 
     #[inline(always)]
-    fn copy_mem_into(
-        &self,
-        alloc: Global,
-        mem: &NatMitMem,
-        copy: &mut NatMitMem,
-    ) -> Result<(), OutOfMemory> {
-        mem.copy_into(alloc, copy)
+    fn copy_mem_into(&self, mem: &NatMitMem, copy: &mut NatMitMem) -> Result<(), OutOfMemory> {
+        mem.copy_into(copy)
     }
 
     #[inline(always)]
@@ -144,25 +139,23 @@ impl Encode for NatMit {
         write_parts_behind(naming, 2, front, &MemoryView { mem, threads }, buffer)
     }
 
-    fn read_code(
+    fn read_front<'a>(
         &self,
-        alloc: Global,
-        bytes: &[u8],
+        bytes: &'a [u8],
         mem: &mut NatMitMem,
-        threads: &mut [Thread<NatMitLoc>],
-    ) -> Result<Option<(usize, Front)>, OutOfMemory> {
-        read_all(alloc, bytes, mem, threads)
+    ) -> Result<Option<(Front, &'a [u8])>, OutOfMemory> {
+        read_front(bytes, mem)
     }
 
     fn read_behind(
         &self,
-        alloc: Global,
+        _alloc: Global,
         bytes: &[u8],
         front: Front,
         mem: &mut NatMitMem,
         threads: &mut [Thread<NatMitLoc>],
     ) -> Result<bool, OutOfMemory> {
-        read_behind(alloc, bytes, front, mem, threads)
+        read_behind(bytes, front, mem, threads)
     }
 
     ghost decodes = { natmit_decodes };

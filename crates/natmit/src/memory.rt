@@ -5,7 +5,6 @@ ghost use Rattle.natmit.specs.Memory.{set_word, internal_over, with_internal, ne
 
 use sched_program::{OutOfMemory, Sequence};
 use std::alloc::Global;
-use std::mem::replace;
 use tree_machine::{Shape, Shapes, Side, copy_into, short_number_of, side_of};
 
 /// A child word.
@@ -140,14 +139,11 @@ fn internal_over(key: u8, other: u8, new: u16, leaf: u16) -> Node
 
 /// Appends nodes to a list. It reuses the list's buffer where that is large enough. After a refusal the list is
 /// unchanged.
-fn lengthen(alloc: Global, nodes: &mut Sequence<Node>, more: &[Node]) -> Result<(), OutOfMemory>
+fn lengthen(nodes: &mut Sequence<Node>, more: &[Node]) -> Result<(), OutOfMemory>
     ensures ok { OnOk result (nodes.new ≡ nodes.old ++ more.now) }
     ensures err { OnErr result (nodes.new ≡ nodes.old) }
 {
-    let mut items = replace(nodes, Sequence::new(alloc)).into_vec();
-    let longer = items.extend_from_slice(more);
-    *nodes = Sequence::from_vec(items);
-    longer?;
+    nodes.as_mut_vec().extend_from_slice(more)?;
     Ok(())
 }
 
@@ -175,7 +171,7 @@ impl NatMitMem {
 
     /// Appends a new internal node for a key at a leaf, behind its new leaf, and returns its number. After a refusal
     /// nothing is appended.
-    fn add_internal(&mut self, alloc: Global, key: u8, leaf: u16) -> Result<u16, OutOfMemory>
+    fn add_internal(&mut self, key: u8, leaf: u16) -> Result<u16, OutOfMemory>
         ensures ok { IfOk result (λ new. self.new ≡ with_internal self.old key leaf) }
         ensures number { IfOk result (λ new. new ≡ new_internal self.old) }
         ensures err { OnErr result (self.new ≡ self.old) }
@@ -188,23 +184,17 @@ impl NatMitMem {
             Node::Leaf { key },
             internal_over(key, other, new_leaf, leaf),
         ];
-        lengthen(alloc, &mut self.nodes, &more)?;
+        lengthen(&mut self.nodes, &more)?;
         Ok(new)
     }
 
     /// Replaces a leaf, below its parent, by a new internal node for a key. After a refusal nothing is changed.
-    pub(crate) fn put_at(
-        &mut self,
-        alloc: Global,
-        key: u8,
-        parent: u16,
-        leaf: u16,
-    ) -> Result<(), OutOfMemory>
+    pub(crate) fn put_at(&mut self, key: u8, parent: u16, leaf: u16) -> Result<(), OutOfMemory>
         ensures ok { IfOk result (λ _. self.new ≡ put_at self.old key parent leaf) }
         ensures err { OnErr result (self.new ≡ self.old) }
     {
         let side = side_of(key, key_in(self.node(parent)));
-        let new = self.add_internal(alloc, key, leaf)?;
+        let new = self.add_internal(key, leaf)?;
         self.set_word(parent, side, plain(new));
         Ok(())
     }
@@ -220,10 +210,10 @@ impl NatMitMem {
 
     /// Makes another memory equal to this one. It reuses that one's buffer where it is large enough.
     #[inline(always)]
-    pub(crate) fn copy_into(&self, alloc: Global, copy: &mut NatMitMem) -> Result<(), OutOfMemory>
+    pub(crate) fn copy_into(&self, copy: &mut NatMitMem) -> Result<(), OutOfMemory>
         ensures { OnOk result (copy.new ≡ self.now) }
     {
-        copy_into(alloc, self.nodes.as_slice(), &mut copy.nodes)
+        copy_into(self.nodes.as_slice(), &mut copy.nodes)
     }
 }
 

@@ -1,9 +1,8 @@
 //! Decodes memories, and the places that threads hold, where the nodes are so few that each number is one byte. Where a
 //! reader returns a value, the bytes it got are those of that value, with the bytes it returns behind them.
-ghost use Rattle.std.specs.Prelude.{◌≡◌, ◌<◌, ◌≤◌, ◌++◌, ◌∷◌, [], List, Some, map, length, take, IsTrue, IfSome, IfOk};
+ghost use Rattle.std.specs.Prelude.{◌≡◌, ◌<◌, ◌++◌, ◌∷◌, [], List, map, length, IsTrue, IfSome, IfOk};
 ghost use Rattle.tree_machine.specs.Alike.{places_of, replies_of, notes_of};
 ghost use Rattle.tree_machine.specs.Flat.{cell_code, graph_code, left_code, part_content};
-ghost use Rattle.tree_machine.specs.FormCode.{cut_code};
 ghost use Rattle.natmit.specs.Parts.{mark_number, node_part, natmit_behind_code, natmit_front_code};
 ghost use Rattle.natmit.specs.declared.memory.Node.{Node};
 
@@ -14,9 +13,7 @@ use crate::memory::{NatMitMem, Node, Word};
 use crate::place::NatMitLoc;
 use crate::reading::bytes::name_of;
 use crate::reading::place::read_places;
-use sched_program::{OutOfMemory, Sequence};
-use std::alloc::Global;
-use std::mem::replace;
+use sched_program::OutOfMemory;
 use tree_machine::{CodedPart, Front, Thread, read_values};
 
 /// The child word of a flag and a tag that are one number, and of a node.
@@ -103,7 +100,6 @@ fn read_left(bytes: &[u8], nodes: &mut Vec<Node>) -> Result<bool, OutOfMemory>
 
 /// Reads what each thread holds, and what is left of the memory behind the nodes of the front, which stay.
 pub(crate) fn read_behind(
-    alloc: Global,
     bytes: &[u8],
     front: Front,
     mem: &mut NatMitMem,
@@ -119,47 +115,31 @@ pub(crate) fn read_behind(
     let Some(rest) = read_places(bytes, threads) else {
         return Ok(false);
     };
-    let mut nodes = replace(&mut mem.nodes, Sequence::new(alloc)).into_vec();
+    let nodes = mem.nodes.as_mut_vec();
     if nodes.len() < usize::from(front.nodes) {
         return Ok(false);
     }
     nodes.truncate(usize::from(front.nodes));
-    let read = read_left(rest, &mut nodes);
-    mem.nodes = Sequence::from_vec(nodes);
-    read
+    read_left(rest, nodes)
 }
 
-/// Reads a memory, and the place that each thread holds, into these, and reuses their buffers where they are large
-/// enough. It returns the length of what comes in front, and the front, if the bytes are the code of what it read.
-/// Otherwise the memory and the places are unspecified.
-pub(crate) fn read_all(
-    alloc: Global,
-    bytes: &[u8],
+/// Reads what comes in front in the code of a memory, into this one, and reuses its buffer where it is large enough. It
+/// returns the front, and the bytes behind it.
+pub(crate) fn read_front<'a>(
+    bytes: &'a [u8],
     mem: &mut NatMitMem,
-    threads: &mut [Thread<NatMitLoc>],
-) -> Result<Option<(usize, Front)>, OutOfMemory>
-    ensures read { IfOk result (λ read. IfSome read (λ (end, front).
-        bytes.now ≡ cut_code natmit_front_code natmit_behind_code front mem.new (places_of threads.new))) }
-    ensures within { IfOk result (λ read. IfSome read (λ (end, front). end ≤ length bytes.now)) }
-    ensures front { IfOk result (λ read. IfSome read
-        (λ (end, front). take end bytes.now ≡ natmit_front_code front mem.new)) }
-    ensures replies { replies_of threads.new ≡ replies_of threads.old }
-    ensures notes { notes_of threads.new ≡ notes_of threads.old }
+) -> Result<Option<(Front, &'a [u8])>, OutOfMemory>
+    ensures { IfOk result (λ read. IfSome read
+        (λ (front, rest). bytes.now ≡ natmit_front_code front mem.new ++ rest.now)) }
 {
-    let mut nodes = replace(&mut mem.nodes, Sequence::new(alloc)).into_vec();
+    let nodes = mem.nodes.as_mut_vec();
     nodes.clear();
-    let read = read_graph(bytes, &mut nodes);
-    mem.nodes = Sequence::from_vec(nodes);
-    let Some((rest, count)) = read? else {
+    let Some((rest, count)) = read_graph(bytes, nodes)? else {
         return Ok(None);
     };
     let front = Front {
         nodes: u16::from(count),
         records: 0,
     };
-    if read_behind(alloc, rest, front, mem, threads)? {
-        Ok(Some((bytes.len() - rest.len(), front)))
-    } else {
-        Ok(None)
-    }
+    Ok(Some((front, rest)))
 }

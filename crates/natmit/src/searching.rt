@@ -9,7 +9,6 @@ use crate::machine::NatMit;
 use crate::memory::{NatMitMem, Node, Word, is_plain, key_in, untagged, word_on};
 use crate::place::{Mode, NatMitLoc, Path};
 use sched_program::{Op, OutOfMemory};
-use std::alloc::Global;
 use tree_machine::{Outcome, Side, side_of};
 
 /// What comes of an access.
@@ -128,7 +127,7 @@ impl NatMit {
 
     /// An insert adds its key in the place of the leaf, if the word of the parent points to the leaf and no delete is
     /// under way.
-    fn put_row(self, alloc: Global, op: Op, mem: &mut NatMitMem, path: Path, leaf: u16) -> Access
+    fn put_row(self, op: Op, mem: &mut NatMitMem, path: Path, leaf: u16) -> Access
         ensures ok { IfOk result (λ outcome. act self op (place.Put path leaf) mem.old ≡ (mem.new, outcome)) }
         ensures err { OnErr result (mem.new ≡ mem.old) }
     {
@@ -139,7 +138,7 @@ impl NatMit {
         if !is_plain(leaf, word) {
             return Ok(Outcome::Goes(NatMitLoc::Look { path, leaf }));
         }
-        mem.put_at(alloc, op.key(), path.parent, leaf)?;
+        mem.put_at(op.key(), path.parent, leaf)?;
         Ok(Outcome::Replies(true))
     }
 
@@ -171,7 +170,7 @@ impl NatMit {
     }
 
     /// One access to the memory, by the row of its place. After a refusal the memory is unchanged.
-    pub(crate) fn access(self, alloc: Global, op: Op, loc: NatMitLoc, mem: &mut NatMitMem) -> Access
+    pub(crate) fn access(self, op: Op, loc: NatMitLoc, mem: &mut NatMitMem) -> Access
         ensures ok { IfOk result (λ outcome. act self op loc mem.old ≡ (mem.new, outcome)) }
         ensures err { OnErr result (mem.new ≡ mem.old) }
     {
@@ -183,7 +182,7 @@ impl NatMit {
                 tag,
                 mode,
             } => Ok(self.down_row(op, mem, path, leaf, tag, mode)),
-            NatMitLoc::Put { path, leaf } => self.put_row(alloc, op, mem, path, leaf),
+            NatMitLoc::Put { path, leaf } => self.put_row(op, mem, path, leaf),
             NatMitLoc::Flag { path, leaf } => Ok(self.flag_row(op, mem, path, leaf)),
             NatMitLoc::Look { path, leaf } => Ok(self.look_row(op, mem, path, leaf)),
             NatMitLoc::CleanRead { path, mode } => Ok(self.clean_read_row(op, mem, path, mode)),

@@ -5,4 +5,5 @@ pub mod Laws
 pub mod Loading
 pub mod Name
 pub mod Program
+pub mod Sequence
 pub mod Text

@@ -4,7 +4,9 @@ ghost use Rattle.std.specs.Prelude.{slice_get, slice_set, insert, Some, IfOk, On
 ghost use Rattle.std.specs.Option.{option_copied};
 ghost use Rattle.std.specs.Hash as fed;
 ghost use Rattle.std.specs.Hash.{items_Alike};
+ghost use Rattle.std.specs.Borrow.{sem};
 ghost use Rattle.std.specs.Cmp.Lexicographic.{pointwise, lists_equiv, lists_per};
+ghost use Rattle.sched_program.specs.Sequence.{lends_vec};
 
 use std::alloc::{AllocError, Global};
 use std::hash::{Hash, Hasher};
@@ -80,6 +82,14 @@ impl<T> Sequence<T> {
         ensures { result.now ≡ self.now }
     {
         self.items.as_slice()
+    }
+
+    /// The values as a `Vec`, for writing.
+    pub fn as_mut_vec(&mut self) -> &mut Vec<T>
+        ensures* writes_back { sem 𝓛 (lends_vec T.row self.entry result) }
+        ensures value { result.now.items ≡ self.old }
+    {
+        &mut self.items
     }
 
     /// The value at an index, if there is one.

@@ -1,5 +1,5 @@
 //! What an explorer needs of a step machine besides its steps.
-ghost use Rattle.std.specs.Prelude.{◌≡◌, ◌≤◌, ◌++◌, ℕ, List, Option, IsTrue, IfOk, IfSome, OnOk, length, take};
+ghost use Rattle.std.specs.Prelude.{◌≡◌, ◌++◌, ℕ, List, Option, IsTrue, IfOk, IfSome, OnOk};
 ghost use Rattle.tree_machine.specs.Rules.{ArePlacesInRange, DecodesForms};
 ghost use Rattle.tree_machine.specs.Alike.{notes_of, places_of, replies_of};
 ghost use Rattle.tree_machine.specs.FormCode.{IsInjective, TellsWholly, cut_code};
@@ -18,7 +18,7 @@ use std::alloc::Global;
 ///
 /// A memory with the place that each thread holds has two codes: its own, by the numbers of its nodes and records, and
 /// that of its form. Both are codes cut at a front: what comes in front is of the memory alone. So after a step that
-/// left the memory as it was, the code begins as that of the step's source. One reader decodes both. `copy_mem_into`
+/// left the memory as it was, the code begins as that of the step's source. `read_front` and `read_behind` decode both. `copy_mem_into`
 /// and `only_reads` are the two shortcuts for steps in place: an explorer keeps a copy of the memory in a buffer that
 /// it reuses, and none where an access only reads.
 pub trait Encode: Machine {
@@ -39,12 +39,7 @@ pub trait Encode: Machine {
 
     /// Makes `copy` equal to `mem`. It reuses the buffers of `copy` where they are large enough. After a refusal `copy`
     /// is unspecified.
-    fn copy_mem_into(
-        &self,
-        alloc: Global,
-        mem: &Self::Mem,
-        copy: &mut Self::Mem,
-    ) -> Result<(), OutOfMemory>
+    fn copy_mem_into(&self, mem: &Self::Mem, copy: &mut Self::Mem) -> Result<(), OutOfMemory>
         ensures { OnOk result (copy.new ≡ mem.now) };
 
     /// Whether an access at this place leaves every memory as it is. Where it returns `false`, the
@@ -89,24 +84,16 @@ pub trait Encode: Machine {
             → buffer.new ≡ before ++ code_by naming (own_code mem.now (places_of threads.now))
             (form_code (Self.form_of self.now mem.now (places_of threads.now)))) };
 
-    /// Decodes a memory, and the place that each thread holds, into these, and reuses their buffers where they are
-    /// large enough. If the bytes are the code of what it read, cut at a front, it returns the length of what comes in
-    /// front, and the front. It may return `None` for any bytes; then, and after a refusal, the memory and the places
-    /// are unspecified. The replies and notes of the threads stay as they are.
-    fn read_code(
+    /// Decodes what comes in front in the code of a memory, into this one, and reuses its buffers where they are large
+    /// enough. It returns the front, and the bytes behind it. It may return `None` for any bytes; then, and after a
+    /// refusal, the memory is unspecified.
+    fn read_front<'a>(
         &self,
-        alloc: Global,
-        bytes: &[u8],
+        bytes: &'a [u8],
         mem: &mut Self::Mem,
-        threads: &mut [Thread<Self::Loc>],
-    ) -> Result<Option<(usize, Front)>, OutOfMemory>
-        ensures read { IfOk result (λ read. IfSome read
-            (λ (end, front). bytes.now ≡ cut_code front_code behind_code front mem.new (places_of threads.new))) }
-        ensures within { IfOk result (λ read. IfSome read (λ (end, front). end ≤ length bytes.now)) }
-        ensures front { IfOk result (λ read. IfSome read
-            (λ (end, front). take end bytes.now ≡ front_code front mem.new)) }
-        ensures replies { replies_of threads.new ≡ replies_of threads.old }
-        ensures notes { notes_of threads.new ≡ notes_of threads.old };
+    ) -> Result<Option<(Front, &'a [u8])>, OutOfMemory>
+        ensures { IfOk result (λ read. IfSome read
+            (λ (front, rest). bytes.now ≡ front_code front mem.new ++ rest.now)) };
 
     /// Decodes what comes behind this front of the memory: the place that each thread holds, and what is left of a
     /// memory that has the same front. It reuses the buffers of memory and places where they are large enough, and

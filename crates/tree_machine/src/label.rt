@@ -23,7 +23,7 @@ use std::alloc::Global;
 use std::snapshot::Snapshot;
 
 /// The state that a step was made from, for the label of the step.
-#[derive(Clone, Copy)]
+#[derive(Drop)]
 pub struct StepOrigin<'a, M: Encode> {
     /// Its label.
     pub label: &'a [u8],

@@ -1,9 +1,8 @@
 //! Lists built in the buffers of other lists, and lists with more values.
-ghost use Rattle.std.specs.Prelude.{◌≡◌, ◌++◌, [], IfOk, OnOk};
+ghost use Rattle.std.specs.Prelude.{◌≡◌, ◌++◌, IfOk, OnOk};
 
 use sched_program::{OutOfMemory, Sequence};
 use std::alloc::Global;
-use std::mem::replace;
 
 /// A new list: the values of another, and more of them behind.
 pub fn extended<T: Copy>(
@@ -19,27 +18,14 @@ pub fn extended<T: Copy>(
     Ok(Sequence::from_vec(items))
 }
 
-/// The empty list, in the buffer of another one.
-pub(crate) fn emptied<T: Drop>(list: Sequence<T>) -> Sequence<T>
-    ensures { result ≡ [] }
-{
-    let mut items = list.into_vec();
-    items.clear();
-    Sequence::from_vec(items)
-}
-
 /// Replaces the values of a list by these. It reuses the list's buffer where that is large enough. After a refusal the
 /// list is unspecified.
 #[inline(always)]
-pub fn copy_into<T: Copy + Drop>(
-    alloc: Global,
-    values: &[T],
-    list: &mut Sequence<T>,
-) -> Result<(), OutOfMemory>
+pub fn copy_into<T: Copy + Drop>(values: &[T], list: &mut Sequence<T>) -> Result<(), OutOfMemory>
     ensures { OnOk result (list.new ≡ values.now) }
 {
-    let mut items = emptied(replace(list, Sequence::new(alloc))).into_vec();
+    let items = list.as_mut_vec();
+    items.clear();
     items.extend_from_slice(values)?;
-    *list = Sequence::from_vec(items);
     Ok(())
 }

@@ -12,9 +12,8 @@ use crate::front::Front;
 use crate::op_log_reading::{read_all_notes, read_all_replies, read_astray};
 use crate::reading::{read_any_number, read_byte};
 use crate::state::{State, Thread};
-use sched_program::{OutOfMemory, Sequence};
+use sched_program::OutOfMemory;
 use std::alloc::Global;
-use std::mem::replace;
 
 /// Makes a list of threads as long as `count`: it drops threads, or appends threads that began
 /// nothing.
@@ -72,6 +71,27 @@ struct BodyRead {
     front: Front,
 }
 
+/// Decodes what comes in front in the code of a memory, unless it is `known`: what comes in front in the code of the
+/// memory as it is, with the front. It returns the front, and the bytes behind it.
+#[inline(always)]
+fn read_front<'a, M: Encode>(
+    machine: M,
+    bytes: &'a [u8],
+    known: Option<(&[u8], Front)>,
+    memory: &mut M::Mem,
+) -> Result<Option<(Front, &'a [u8])>, OutOfMemory>
+    requires { IfSome known (λ known. known.0.now ≡ M.front_code known.1 memory.old) }
+    ensures { IfOk result (λ read. IfSome read
+        (λ (front, rest). bytes.now ≡ M.front_code front memory.new ++ rest.now)) }
+{
+    if let Some((known, front)) = known
+        && let Some(rest) = bytes.strip_prefix(known)
+    {
+        return Ok(Some((front, rest)));
+    }
+    machine.read_front(bytes, memory)
+}
+
 /// Reads all that comes behind the number of threads. `known` is what comes in front in the code of the memory as it
 /// is, with the front, if that is known. If the bytes have it there, it is not decoded again.
 #[inline(always)]
@@ -100,88 +120,69 @@ fn read_body<M: Encode>(
         return Ok(None);
     };
     *astray = thread;
-    let behind = rest.len();
-    if let Some((known, front)) = known
-        && let Some(rest) = rest.strip_prefix(known)
-        && machine.read_behind(alloc, rest, front, memory, threads)?
-    {
-        let end = known.len();
-        return Ok(Some(BodyRead { behind, end, front }));
+    let Some((front, held)) = read_front(machine, rest, known, memory)? else {
+        return Ok(None);
+    };
+    if !machine.read_behind(alloc, held, front, memory, threads)? {
+        return Ok(None);
     }
-    match machine.read_code(alloc, rest, memory, threads)? {
-        Some((end, front)) => Ok(Some(BodyRead { behind, end, front })),
-        None => Ok(None),
-    }
+    Ok(Some(BodyRead {
+        behind: rest.len(),
+        end: rest.len() - held.len(),
+        front,
+    }))
 }
 
 impl<M: Encode> State<M> {
+    /// What comes in front in the code of the memory, with the front, if a code of this state is given with the offsets
+    /// of its parts.
+    #[inline(always)]
+    fn known_front<'a>(&self, last: Option<(&'a [u8], CodeOffsets)>) -> Option<(&'a [u8], Front)>
+        requires { IfSome last
+            (λ (last, offsets). AreOffsetsOf M.front_code M.behind_code last.now offsets self.now) }
+        ensures { IfSome result (λ (known, front). known.now ≡ M.front_code front self.now.memory) }
+    {
+        let (last, offsets) = last?;
+        let front = &last[offsets.memory..offsets.held];
+        Some((front, offsets.front))
+    }
+
     /// Decodes a state into this one, and reuses its buffers where they are large enough. If the bytes are the code of
     /// the state that this one then is, cut at a front, it returns where the parts of the code begin. It may return
     /// `None` for any bytes, and does for those of no state. Then, and after a refusal of memory, the state is
-    /// unspecified, and can only be read into.
-    pub fn read_in(
+    /// unspecified, and can only be decoded into.
+    ///
+    /// `last` is the code of this state as it is, with the offsets of its parts, if that is known. What comes in front
+    /// is then decoded only if it differs from that of `last`: most states that are decoded in a row have one memory.
+    pub fn decode(
         &mut self,
         alloc: Global,
         machine: M,
         bytes: &[u8],
+        last: Option<(&[u8], CodeOffsets)>,
     ) -> Result<Option<CodeOffsets>, OutOfMemory>
-        ensures { IfOk result (λ read. IfSome read
-            (λ offsets. AreOffsetsOf M.front_code M.behind_code bytes.now offsets self.new)) }
-    {
-        self.read_over(alloc, machine, bytes, None)
-    }
-
-    /// Decodes a state as `read_in` does. `last` is the code of this state as it is, and `offsets` is where its parts
-    /// begin. What comes in front is decoded only if it differs from that of `last`. Most states that are decoded in a
-    /// row have one memory.
-    pub fn read_after(
-        &mut self,
-        alloc: Global,
-        machine: M,
-        bytes: &[u8],
-        last: &[u8],
-        offsets: CodeOffsets,
-    ) -> Result<Option<CodeOffsets>, OutOfMemory>
-        requires { AreOffsetsOf M.front_code M.behind_code last.now offsets self.old }
-        ensures { IfOk result (λ read. IfSome read
-            (λ offsets. AreOffsetsOf M.front_code M.behind_code bytes.now offsets self.new)) }
-    {
-        let front = &last[offsets.memory..offsets.held];
-        self.read_over(alloc, machine, bytes, Some((front, offsets.front)))
-    }
-
-    /// Decodes a state as `read_in` does. `known` is what comes in front in the code of the memory as it is, with the
-    /// front, if that is known.
-    #[inline(always)]
-    fn read_over(
-        &mut self,
-        alloc: Global,
-        machine: M,
-        bytes: &[u8],
-        known: Option<(&[u8], Front)>,
-    ) -> Result<Option<CodeOffsets>, OutOfMemory>
-        requires { IfSome known (λ known. known.0.now ≡ M.front_code known.1 self.old.memory) }
+        requires { IfSome last
+            (λ (last, offsets). AreOffsetsOf M.front_code M.behind_code last.now offsets self.old) }
         ensures { IfOk result (λ read. IfSome read
             (λ offsets. AreOffsetsOf M.front_code M.behind_code bytes.now offsets self.new)) }
     {
         let Some((steps, count, rest)) = read_head(bytes) else {
             return Ok(None);
         };
-        let mut threads = replace(&mut self.threads, Sequence::new(alloc)).into_vec();
-        make_count(&mut threads, usize::from(count))?;
-        let lent = threads.as_mut_slice();
+        let known = self.known_front(last);
+        self.steps = steps;
+        let threads = self.threads.as_mut_vec();
+        make_count(threads, usize::from(count))?;
         let read = read_body(
             alloc,
             machine,
             rest,
             known,
             &mut self.memory,
-            lent,
+            threads.as_mut_slice(),
             &mut self.astray,
-        );
-        self.threads = Sequence::from_vec(threads);
-        self.steps = steps;
-        match read? {
+        )?;
+        match read {
             Some(read) => {
                 let op_log = bytes.len() - rest.len() - 1;
                 let memory = bytes.len() - read.behind;

@@ -11,9 +11,8 @@ ghost use Rattle.tree_machine.specs.Step.{finished_counts, with_note, Fits};
 use crate::machine::{Machine, Outcome};
 use crate::short_note::ShortNote;
 use crate::state::{State, StepFault, Thread, finished_counts, place_or};
-use sched_program::{Op, OutOfMemory, Program, Sequence};
+use sched_program::{Op, OutOfMemory, Program};
 use std::alloc::Global;
-use std::mem::replace;
 
 /// The note of the operation that a thread begins by its access, if it is in none: how many
 /// operations each thread has finished.
@@ -92,16 +91,16 @@ impl<M: Machine> State<M> {
     {
         let first = machine.begin(op);
         let at = usize::from(t);
-        let mut threads = replace(&mut self.threads, Sequence::new(alloc)).into_vec();
-        let note = note_at_step(&threads.as_slice()[at].place, threads.as_slice());
-        let moved = &mut threads.as_mut_slice()[at];
+        let threads = self.threads.as_slice();
+        let note = note_at_step(&threads[at].place, threads);
+        let threads = self.threads.as_mut_vec();
+        let moved = &mut threads[at];
         was.replies = moved.replies;
         was.notes = moved.notes;
         was.place = moved.place.take();
         let place = place_or(&was.place, &first);
         let outcome = machine.act(alloc, op, place, &mut self.memory)?;
         self.astray = advance(alloc, machine, note, t, place, outcome, moved)?;
-        self.threads = Sequence::from_vec(threads);
         self.steps = self.steps + 1;
         Ok(())
     }

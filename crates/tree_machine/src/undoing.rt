@@ -9,9 +9,9 @@ ghost use Rattle.tree_machine.specs.Undoing.{TakesBack};
 
 use crate::encode::Encode;
 use crate::state::{State, StepFault, Thread, place_or};
-use sched_program::{Op, OutOfMemory, Program, Sequence};
+use sched_program::{Op, OutOfMemory, Program};
 use std::alloc::Global;
-use std::mem::{replace, swap};
+use std::mem::swap;
 use std::snapshot::Snapshot;
 
 /// What takes back a step that was made in place: the thread as it was, and the memory as it was if
@@ -65,7 +65,7 @@ fn keep_memory<M: Encode>(
         return Ok(());
     }
     match kept {
-        Some(copy) => machine.copy_mem_into(alloc, memory, copy),
+        Some(copy) => machine.copy_mem_into(memory, copy),
         None => {
             *kept = Some(machine.copy_mem(alloc, memory)?);
             Ok(())
@@ -83,22 +83,6 @@ fn left_memory<M: Encode>(reads: bool, kept: &Option<M::Mem>, memory: &M::Mem) -
         Some(kept) => reads || *kept == *memory,
         None => reads,
     }
-}
-
-/// Swaps the thread of this number with another one.
-#[inline(always)]
-fn exchange<L: Drop>(
-    alloc: Global,
-    threads: &mut Sequence<Thread<L>>,
-    t: u8,
-    thread: &mut Thread<L>,
-)
-    requires { t < length threads.old }
-    ensures threads { threads.new ≡ slice_set threads.old t thread.old }
-{
-    let mut items = replace(threads, Sequence::new(alloc)).into_vec();
-    swap(&mut items.as_mut_slice()[usize::from(t)], thread);
-    *threads = Sequence::from_vec(items);
 }
 
 impl<M: Encode> State<M> {
@@ -150,13 +134,7 @@ impl<M: Encode> State<M> {
     /// Takes back the step of a thread by what `step_here` kept: this state becomes what it was
     /// before. What was kept is then used up.
     #[inline(always)]
-    pub fn take_back(
-        &mut self,
-        alloc: Global,
-        source: &Snapshot<State<M>>,
-        t: u8,
-        undo: &mut Undo<M>,
-    )
+    pub fn take_back(&mut self, source: &Snapshot<State<M>>, t: u8, undo: &mut Undo<M>)
         requires step { (machine : M) × (program : Program)
             × (step (M.rules machine) program source.now.value t ≡ Some self.old) }
         requires back { TakesBack source.now.value t undo.old.thread undo.old.reads undo.old.memory self.old }
@@ -164,7 +142,8 @@ impl<M: Encode> State<M> {
     {
         // Proofs alone read what the state was.
         let _ = source;
-        exchange(alloc, &mut self.threads, t, &mut undo.thread);
+        let threads = self.threads.as_mut_vec();
+        swap(&mut threads[usize::from(t)], &mut undo.thread);
         self.astray = None;
         self.steps = self.steps - 1;
         if !undo.reads {

@@ -8,8 +8,6 @@ ghost use Rattle.ellen.specs.declared.memory.Record.{Record};
 use crate::memory::{DeleteRecord, EllenMem, InsertRecord, Node, Record};
 use crate::reading::words::{name_of, word_of};
 use sched_program::{OutOfMemory, Sequence};
-use std::alloc::Global;
-use std::mem::replace;
 use tree_machine::{CodedPart, Front, read_values};
 
 /// The internal node of these bytes behind its first one, if there is one.
@@ -101,7 +99,6 @@ impl CodedPart for Record {
 /// Reads values, appends them to a list, and returns the bytes behind them.
 #[inline(always)]
 fn read_more<'a, V: CodedPart>(
-    alloc: Global,
     bytes: &'a [u8],
     count: u8,
     list: &mut Sequence<V>,
@@ -110,20 +107,16 @@ fn read_more<'a, V: CodedPart>(
         × (list.new ≡ list.old ++ more) × (length more ≡ count)
         × (bytes.now ≡ part_codes (map V.part more) ++ rest.now))) }
 {
-    let mut values = replace(list, Sequence::new(alloc)).into_vec();
-    let read = read_values(bytes, count, &mut values);
-    *list = Sequence::from_vec(values);
-    read
+    read_values(bytes, count, list.as_mut_vec())
 }
 
 /// Reads how many nodes and records there are, and all of them, which it appends to those of a memory. It returns the
-/// bytes behind them, and the two counts.
+/// two counts, and the bytes behind.
 pub(crate) fn read_graph<'a>(
-    alloc: Global,
     bytes: &'a [u8],
     memory: &mut EllenMem,
-) -> Result<Option<(&'a [u8], Front)>, OutOfMemory>
-    ensures { IfOk result (λ read. IfSome read (λ (rest, front).
+) -> Result<Option<(Front, &'a [u8])>, OutOfMemory>
+    ensures { IfOk result (λ read. IfSome read (λ (front, rest).
         (more : List Node) × (others : List Record)
         × (memory.new.nodes ≡ memory.old.nodes ++ more) × (length more ≡ front.nodes)
         × (memory.new.records ≡ memory.old.records ++ others) × (length others ≡ front.records)
@@ -136,22 +129,18 @@ pub(crate) fn read_graph<'a>(
         nodes: u16::from(*node_count),
         records: u16::from(*record_count),
     };
-    let Some(behind) = read_more(alloc, rest, *node_count, &mut memory.nodes)? else {
+    let Some(behind) = read_more(rest, *node_count, &mut memory.nodes)? else {
         return Ok(None);
     };
-    match read_more(alloc, behind, *record_count, &mut memory.records)? {
-        Some(rest) => Ok(Some((rest, front))),
+    match read_more(behind, *record_count, &mut memory.records)? {
+        Some(rest) => Ok(Some((front, rest))),
         None => Ok(None),
     }
 }
 
 /// Reads what is left of the nodes and the records behind what the threads hold, if some are left. It returns whether
 /// all bytes were read.
-pub(crate) fn read_left(
-    alloc: Global,
-    bytes: &[u8],
-    memory: &mut EllenMem,
-) -> Result<bool, OutOfMemory>
+pub(crate) fn read_left(bytes: &[u8], memory: &mut EllenMem) -> Result<bool, OutOfMemory>
     ensures { IfOk result (λ read. IsTrue read → (more : List Node) × (others : List Record)
         × (memory.new.nodes ≡ memory.old.nodes ++ more) × (memory.new.records ≡ memory.old.records ++ others)
         × (bytes.now ≡ left_code (map node_part more) (map record_part others))) }
@@ -159,8 +148,8 @@ pub(crate) fn read_left(
     if bytes.is_empty() {
         return Ok(true);
     }
-    match read_graph(alloc, bytes, memory)? {
-        Some((rest, front)) => Ok((front.nodes > 0 || front.records > 0) && rest.is_empty()),
+    match read_graph(bytes, memory)? {
+        Some((front, rest)) => Ok((front.nodes > 0 || front.records > 0) && rest.is_empty()),
         None => Ok(false),
     }
 }

@@ -81,7 +81,7 @@ fn stack_of(alloc: Global, held: Option<EllenLoc>) -> Sequence<u16>
     match held {
         Some(EllenLoc::Help(_, resume)) => {
             let mut stack = resume.stack;
-            keep_first(alloc, &mut stack, 0);
+            keep_first(&mut stack, 0);
             stack
         }
         _ => Sequence::new(alloc),

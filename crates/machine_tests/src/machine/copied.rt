@@ -96,7 +96,7 @@ fn is_taken_back(
     here.step_here(alloc, Atomic, program, thread, &mut undo)?;
     let is_memory_kept = undo.reads() == (next.memory() == state.memory());
     ensure(here == next && is_memory_kept, case)?;
-    here.take_back(alloc, &source, thread, &mut undo);
+    here.take_back(&source, thread, &mut undo);
     ensure(here == *state, case)
 }
 

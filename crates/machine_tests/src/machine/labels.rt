@@ -101,25 +101,7 @@ pub fn label_of<M: Encode>(
     state.label(alloc, how.machine, how.naming, buffer, Vec::new(alloc))
 }
 
-/// Reads bytes in the place of another state, whose own code may be known with the places where its parts begin.
-fn read_bytes<M: Encode>(
-    alloc: Global,
-    machine: M,
-    bytes: &[u8],
-    last: Option<(&[u8], CodeOffsets)>,
-    shell: &mut State<M>,
-) -> Result<Option<CodeOffsets>, OutOfMemory>
-    requires { IfSome last (λ (own, offsets). AreOffsetsOf M.front_code M.behind_code own.now offsets shell.old) }
-    ensures { IfOk result (λ read. IfSome read
-        (λ offsets. AreOffsetsOf M.front_code M.behind_code bytes.now offsets shell.new)) }
-{
-    match last {
-        Some((own, offsets)) => shell.read_after(alloc, machine, bytes, own, offsets),
-        None => shell.read_in(alloc, machine, bytes),
-    }
-}
-
-/// Reads the label of a state of a program as `read_bytes` does. What it reads is one of that program too.
+/// Reads the label of a state of a program in the place of another state. What it reads is one of that program too.
 fn read_label<M: Encode>(
     alloc: Global,
     how: &Labelling<'_, M>,
@@ -135,7 +117,7 @@ fn read_label<M: Encode>(
         (λ offsets. AreOffsetsOf M.front_code M.behind_code label.now offsets shell.new)) }
     ensures fits { IfOk result (λ read. IfSome read (λ _. Fits (M.rules how.now.machine) how.now.program.now shell.new)) }
 {
-    let read = read_bytes(alloc, how.machine, label, last, shell)?;
+    let read = shell.decode(alloc, how.machine, label, last)?;
     shell.decoded_law(how.machine);
     Ok(read)
 }
@@ -210,7 +192,7 @@ pub fn beginnings_read<M: Encode>(
 ) -> Result<usize, OutOfMemory> {
     let mut count: usize = 0;
     for len in 0..bytes.len() {
-        let read = shell.read_in(alloc, machine, &bytes[..len])?;
+        let read = shell.decode(alloc, machine, &bytes[..len], None)?;
         if read.is_some() {
             count = count.saturating_add(1);
         }
@@ -281,9 +263,7 @@ fn label_of_step<M: Encode>(
         &mut scratch.buffer,
         spare,
     )?;
-    scratch
-        .shell
-        .take_back(alloc, &source, thread, &mut scratch.undo);
+    scratch.shell.take_back(&source, thread, &mut scratch.undo);
     Ok(next)
 }
 

@@ -120,7 +120,7 @@ fn is_state(state: &State<Atomic>, row: &Row) -> bool {
 /// A state is read from the bytes of each row, and is what the row says.
 fn are_read(alloc: Global, state: &mut State<Atomic>) -> Result<(), Broken> {
     for row in ROWS {
-        let read = state.read_in(alloc, Atomic, row.bytes)?;
+        let read = state.decode(alloc, Atomic, row.bytes, None)?;
         ensure(read.is_some() && is_state(state, row), row.case)?;
     }
     Ok(())
@@ -129,7 +129,7 @@ fn are_read(alloc: Global, state: &mut State<Atomic>) -> Result<(), Broken> {
 /// No state is read from bytes of none.
 fn are_refused(alloc: Global, state: &mut State<Atomic>) -> Result<(), Broken> {
     for refused in REFUSED {
-        let read = state.read_in(alloc, Atomic, refused.bytes)?;
+        let read = state.decode(alloc, Atomic, refused.bytes, None)?;
         ensure(read.is_none(), refused.case)?;
     }
     Ok(())
@@ -138,10 +138,10 @@ fn are_refused(alloc: Global, state: &mut State<Atomic>) -> Result<(), Broken> {
 /// A state is read from all of its bytes, and from no beginning of them.
 fn are_codes_read(alloc: Global, state: &mut State<Atomic>) -> Result<(), Broken> {
     for count in 0..WHOLE.len() {
-        let read = state.read_in(alloc, Atomic, &WHOLE[..count])?;
+        let read = state.decode(alloc, Atomic, &WHOLE[..count], None)?;
         ensure(read.is_none(), Case::BytesCutShort)?;
     }
-    let read = state.read_in(alloc, Atomic, WHOLE)?;
+    let read = state.decode(alloc, Atomic, WHOLE, None)?;
     ensure(read.is_some(), Case::BytesCutShort)
 }
 

@@ -45,11 +45,18 @@ fn front_of(nodes: u16, records: u16) -> Front
     Front { nodes, records }
 }
 
-/// How many bytes `read_code` counts in front of what the thread holds, and the front.
+/// How many bytes come in front of what the thread holds, and the front, if all bytes are read.
 fn front_in(alloc: Global, bytes: &[u8]) -> Result<Option<(usize, Front)>, OutOfMemory> {
     let mut memory = WHOLE.build(alloc, &[10])?;
+    let Some((front, rest)) = WHOLE.read_front(bytes, &mut memory)? else {
+        return Ok(None);
+    };
     let mut threads = [holding(None)];
-    WHOLE.read_code(alloc, bytes, &mut memory, &mut threads)
+    if WHOLE.read_behind(alloc, rest, front, &mut memory, &mut threads)? {
+        Ok(Some((bytes.len() - rest.len(), front)))
+    } else {
+        Ok(None)
+    }
 }
 
 /// Whether the other bytes alone are written for what the thread holds, behind those in front.

@@ -149,7 +149,7 @@ fn is_read_cut(
     longer.extend_from_slice(&[0])?;
     let read = scratch
         .shell
-        .read_in(alloc, how.machine, longer.as_slice())?;
+        .decode(alloc, how.machine, longer.as_slice(), None)?;
     Ok(read.is_some())
 }
 
@@ -249,8 +249,8 @@ fn looked(
     }
 }
 
-/// How many bytes `read_code` counts in front of what one thread holds, and the front. What comes behind is then read
-/// once more, alone.
+/// How many bytes come in front of what one thread holds, and the front, if all bytes are read. What comes behind is
+/// then read once more, alone.
 fn front_of(alloc: Global, bytes: &[u8]) -> Result<Option<(usize, Front)>, Broken> {
     let mut mem = NatMitMem {
         nodes: Sequence::new(alloc),
@@ -260,14 +260,17 @@ fn front_of(alloc: Global, bytes: &[u8]) -> Result<Option<(usize, Front)>, Broke
         place: None,
         notes: ShortList::new(),
     }];
-    let Some((end, front)) = WHOLE.read_code(alloc, bytes, &mut mem, &mut threads)? else {
+    let Some((front, rest)) = WHOLE.read_front(bytes, &mut mem)? else {
         return Ok(None);
     };
+    if !WHOLE.read_behind(alloc, rest, front, &mut mem, &mut threads)? {
+        return Ok(None);
+    }
     let place = threads[0].place.take();
     let nodes = Vec::from_slice(alloc, mem.nodes.as_slice())?;
-    let is_read = WHOLE.read_behind(alloc, &bytes[end..], front, &mut mem, &mut threads)?;
+    let is_read = WHOLE.read_behind(alloc, rest, front, &mut mem, &mut threads)?;
     if is_read && threads[0].place == place && mem.nodes.as_slice() == nodes.as_slice() {
-        Ok(Some((end, front)))
+        Ok(Some((bytes.len() - rest.len(), front)))
     } else {
         Ok(None)
     }

@@ -56,7 +56,7 @@ fn knows_step<M: Encode>(
         &mut replayer.buffer,
         spare,
     )?;
-    state.take_back(alloc, &source, thread, &mut replayer.undo);
+    state.take_back(&source, thread, &mut replayer.undo);
     let is_known = labels.contains(&label);
     replayer.spare = label.into_vec();
     Ok(is_known)

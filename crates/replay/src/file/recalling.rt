@@ -68,7 +68,7 @@ pub fn recall<M: Encode>(
     // Whoever reads a program knows that it meets the limits.
     let _ = input.program.initial();
     if let Some(label) = labels.get(index)
-        && let Some(_) = state.read_in(alloc, input.machine, label)?
+        && let Some(_) = state.decode(alloc, input.machine, label, None)?
     {
         state.decoded_law(input.machine);
         return Ok(());

@@ -1,11 +1,11 @@
 -- Values that were read from the code of their parts, one behind the other.
-use Rattle.std.proofs.Common.{◌≡◌, ℕ, zero, suc, ◌+◌, ◌-◌, ◌<◌, List, [], ◌∷◌, ◌++◌, length, map, take, drop, refl}
-use Rattle.std.proofs.Common.{sym, ap, append_assoc, append-nil, length-append, arith}
+use Rattle.std.proofs.Common.{◌≡◌, ℕ, zero, suc, ◌+◌, ◌<◌, List, [], ◌∷◌, ◌++◌, length, map, take, drop, refl}
+use Rattle.std.proofs.Common.{sym, ap, append_assoc, append-nil, arith}
 use Rattle.std.proofs.Math.Seq.{map-set_same}
 use Rattle.std.specs.Prelude.{Option, slice_index_or, slice_set}
 use Rattle.std.specs.List.{flat_map}
 use Rattle.std.proofs.lemmas.Grind.{flat_map-append}
-use Rattle.std.proofs.lemmas.List.{length-map, length_push, map-append, take_all, take_at, take_more_set}
+use Rattle.std.proofs.lemmas.List.{length-map, length_push, map-append, take_all, take_more_set}
 use Rattle.tree_machine.specs.Alike.{places_of}
 use Rattle.tree_machine.specs.Parts.{Part}
 use Rattle.tree_machine.specs.Flat.{cell_code, part_codes, part_content}
@@ -56,7 +56,3 @@ pub places_coded : {Place : Type 0} (f : Option Place → Part) (threads : List 
 places_coded f [] = refl
 places_coded f (thread ∷ threads) =
     ap (λ l. cell_code (part_content (f thread.place)) ++ l) (places_coded f threads)
-
--- the bytes in front of the last ones
-pub front_taken : (bytes front rest : List ℕ) → bytes ≡ front ++ rest → take (length bytes - length rest) bytes ≡ front
-front_taken bytes front rest e = rw e (take_at front rest _ (omega (arith, length-append front rest)))

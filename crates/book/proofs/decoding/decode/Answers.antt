@@ -5,9 +5,9 @@ use Rattle.book.proofs.decoding.decode.Goals as goal
 
 pub returns : goal.returns
 returns g c =
-    let twin = c.read_code.new.state in
-    let offsets = c.in-Some.offsets in
-    let cut = rw c.in-Some.is at c.in_ok-read.ensures in
+    let twin = c.decode.new.self in
+    let offsets = c.in-Some-read.offsets in
+    let cut = rw c.in-Some-read.is at c.in_ok-read.ensures in
     let law = rw c.deref.ensures at c.decoded_law.ensures in
     record {
       read = cut;

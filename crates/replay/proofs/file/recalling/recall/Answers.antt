@@ -10,9 +10,9 @@ returns g c =
     let input = c.args.input.now in
     read_stands_for (g.M.Machine.rules input.machine) input.program.now (bound.lawful input.machine)
     c.initial.ensures.limits (g.M.Machine.form_of input.machine) (bound.forms input.machine) input.lines.now
-    c.args.index g.M.Encode.form_code c.args.labels.now c.requires.kept c.in-Some.label.now c.read_in.new.self
+    c.args.index g.M.Encode.form_code c.args.labels.now c.requires.kept c.in-Some.label.now c.decode.new.self
     c.in-Some.ensures
-    (λ s within is. let cut = rw c.in-Some-2.is at c.in_ok-read_in.ensures in
+    (λ s within is. let cut = rw c.in-Some-2.is at c.in_ok-decode.ensures in
     c.decoded_law.ensures.named c.in-Some-2.field-0.front s within (sym cut.written ∙ is))
 
 pub returns-2 : goal.returns-2

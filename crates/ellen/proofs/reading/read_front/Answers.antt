@@ -1,12 +1,14 @@
-use Rattle.std.proofs.Common.{◌≡◌, List, ◌++◌, length, map, take, sym, ◌∙◌, ap, rules}
+use Rattle.std.proofs.Common.{◌≡◌, List, ◌++◌, length, map, take, sym, ◌∙◌, ap}
+use Rattle.std.proofs.lemmas.Option.{IfSome_then}
+use Rattle.std.proofs.lemmas.Result.{IfOk-weaker}
 use Rattle.tree_machine.specs.Flat.{graph_code}
-use Rattle.tree_machine.specs.Laws.ReadParts.{front_taken, take_read}
+use Rattle.tree_machine.specs.Laws.ReadParts.{take_read}
 use Rattle.tree_machine.specs.declared.front.Front.{Front}
 use Rattle.ellen.specs.declared.memory.Node.{Node}
 use Rattle.ellen.specs.declared.memory.Record.{Record}
 use Rattle.ellen.specs.declared.memory.EllenMem.{EllenMem}
 use Rattle.ellen.specs.Parts.{ellen_front_code, node_part, record_part}
-use Rattle.ellen.proofs.reading.read_all.Goals as goal
+use Rattle.ellen.proofs.reading.read_front.Goals as goal
 
 -- nodes and records that all come in front
 graph_read : (more : List Node) (others : List Record) (memory : EllenMem) (front : Front) → memory.nodes ≡ more
@@ -18,19 +20,12 @@ graph_read more others memory front e f l k =
     λ i. graph_code ((sym (ap (λ ns. take n (map node_part ns)) e ∙ take_read node_part more n l)) i)
     ((sym (ap (λ ns. take r (map record_part ns)) f ∙ take_read record_part others r k)) i)
 
-pub returns-then-branch : goal.returns-then-branch
-returns-then-branch c =
-    let read = rw c.in-Some.is at c.in_ok-rest.ensures in
-    let graph =
-    graph_read read.0 read.1 c.read_graph.new.memory c.in-Some.front
-    (read.2 ∙ ap (λ l. l ++ read.0) c.keep_first.ensures) (read.4 ∙ ap (λ l. l ++ read.1) c.keep_first-2.ensures)
-    read.3 read.5 in
-    let kept = c.in_ok-read_behind.ensures.front c.if-branch.true in
-    let behind = c.in_ok-read_behind.ensures.read c.if-branch.true in
-    record {
-      read = read.6 ∙ (λ i. (graph ∙ sym kept) i ++ behind i);
-      within = search rules;
-      front = front_taken c.args.bytes.now _ c.in-Some.rest.now read.6 ∙ graph ∙ sym kept;
-      replies = search rules;
-      notes = search rules;
-    }
+pub returns : goal.returns
+returns c =
+    IfOk-weaker c.read_graph.result _ _
+    (λ read is. IfSome_then read is (λ x graph.
+    graph.6
+    ∙ ap (λ l. l ++ x.1.now) (graph_read graph.0 graph.1 c.read_graph.new.memory x.0
+    (graph.2 ∙ ap (λ l. l ++ graph.0) c.keep_first.ensures)
+    (graph.4 ∙ ap (λ l. l ++ graph.1) c.keep_first-2.ensures) graph.3 graph.5)))
+    c.read_graph.ensures
