@@ -46,10 +46,9 @@ fn settled(done: bool, base: Base) -> Outcome<EllenLoc>
 fn returned(alloc: Global, done: bool, resume: &Resume) -> Access
     ensures { IfOk result (λ outcome. outcome ≡ returned done resume.now) }
 {
-    let mut stack = resume.stack.copy(alloc)?.into_vec();
-    match stack.pop() {
+    let mut stack = resume.stack.copy(alloc)?;
+    match stack.as_mut_vec().pop() {
         Some(number) => {
-            let stack = Sequence::from_vec(stack);
             let resume = Resume {
                 stack,
                 base: resume.base,

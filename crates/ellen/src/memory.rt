@@ -204,13 +204,6 @@ fn internal_over(key: u8, other: u8, x: u16, y: u16) -> Node
     }
 }
 
-/// An equal list, copied all at once: `Sequence::copy` goes value by value.
-pub(crate) fn copied<T: Copy>(alloc: Global, list: &Sequence<T>) -> Result<Sequence<T>, OutOfMemory>
-    ensures { IfOk result (λ copy. copy ≡ list.now) }
-{
-    Ok(Sequence::from_vec(Vec::from_slice(alloc, list.as_slice())?))
-}
-
 impl EllenMem {
     /// A node by its number.
     pub(crate) fn node(&self, x: u16) -> Node
@@ -356,8 +349,8 @@ impl EllenMem {
         ensures { IfOk result (λ copy. copy ≡ self.now) }
     {
         Ok(EllenMem {
-            nodes: copied(alloc, &self.nodes)?,
-            records: copied(alloc, &self.records)?,
+            nodes: self.nodes.copy(alloc)?,
+            records: self.records.copy(alloc)?,
         })
     }
 

@@ -1,7 +1,7 @@
 //! The place of an operation: its next access to the memory, and the locals that it holds.
 ghost use Rattle.std.specs.Prelude.{◌≡◌, IfOk};
 
-use crate::memory::{UpdateWord, copied};
+use crate::memory::UpdateWord;
 use sched_program::{OutOfMemory, Sequence};
 use std::alloc::Global;
 use tree_machine::Side;
@@ -99,7 +99,7 @@ impl Resume {
         ensures { IfOk result (λ copy. copy ≡ self.now) }
     {
         Ok(Resume {
-            stack: copied(alloc, &self.stack)?,
+            stack: self.stack.copy(alloc)?,
             base: self.base,
         })
     }

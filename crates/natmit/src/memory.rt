@@ -203,9 +203,9 @@ impl NatMitMem {
     pub(crate) fn copy(&self, alloc: Global) -> Result<NatMitMem, OutOfMemory>
         ensures { IfOk result (λ copy. copy ≡ self.now) }
     {
-        // All at once: `Sequence::copy` goes node by node.
-        let nodes = Sequence::from_vec(Vec::from_slice(alloc, self.nodes.as_slice())?);
-        Ok(NatMitMem { nodes })
+        Ok(NatMitMem {
+            nodes: self.nodes.copy(alloc)?,
+        })
     }
 
     /// Makes another memory equal to this one. It reuses that one's buffer where it is large enough.

@@ -66,7 +66,7 @@ impl<T> Sequence<T> {
         ensures { IfOk result (λ copy. copy ≡ self.now) }
     {
         Ok(Sequence {
-            items: self.items.iter().copied().collect(alloc)?,
+            items: Vec::from_slice(alloc, self.as_slice())?,
         })
     }
 
