@@ -1,24 +1,23 @@
 //! A memory with what the threads hold, shown to a coder as parts.
 ghost use Rattle.std.specs.Prelude.{◌≡◌, OnOk};
 ghost use Rattle.tree_machine.specs.Alike.{places_of};
-ghost use Rattle.tree_machine.specs.Coding.{with_part};
+ghost use Rattle.tree_machine.specs.Coding.{IsVisited};
 ghost use Rattle.tree_machine.specs.Parts.{IsPartBelow};
 ghost use Rattle.ellen.specs.Parts.{node_part, record_part, search_part, place_part};
 
 use crate::memory::{EllenMem, Node, Record, UpdateWord};
 use crate::numbers::{above_parts, base_number, help_parts, word_parts};
 use crate::place::{Above, EllenLoc, SearchLoc};
-use sched_program::OutOfMemory;
-use tree_machine::{Coder, Parts, Thread};
+use tree_machine::{Coder, Output, Parts, Thread, Visit};
 
 /// Visits a node.
 #[inline(always)]
-fn visit_node(node: Node, coder: &mut Coder) -> Result<(), OutOfMemory>
+fn visit_node(node: Node, coder: &mut Coder, out: &mut Output) -> Visit
     requires { IsPartBelow coder.old.nodes_below coder.old.records_below (node_part node) }
-    ensures { OnOk result (coder.new ≡ with_part coder.old (node_part node)) }
+    ensures { OnOk result (IsVisited (node_part node) coder.old out.old coder.new out.new) }
 {
     match node {
-        Node::Leaf { key } => coder.visit(&[key], &[], &[], &[]),
+        Node::Leaf { key } => coder.visit(out, &[key], &[], &[], &[]),
         Node::Internal {
             key,
             update,
@@ -26,18 +25,19 @@ fn visit_node(node: Node, coder: &mut Coder) -> Result<(), OutOfMemory>
             right,
         } => {
             let (kind, named) = word_parts(update);
-            coder.visit(&[key, kind], &[Some(left), Some(right)], &[named], &[])
+            coder.visit(out, &[key, kind], &[Some(left), Some(right)], &[named], &[])
         }
     }
 }
 
 /// Visits a record.
-fn visit_record(kept: Record, coder: &mut Coder) -> Result<(), OutOfMemory>
+fn visit_record(kept: Record, coder: &mut Coder, out: &mut Output) -> Visit
     requires { IsPartBelow coder.old.nodes_below coder.old.records_below (record_part kept) }
-    ensures { OnOk result (coder.new ≡ with_part coder.old (record_part kept)) }
+    ensures { OnOk result (IsVisited (record_part kept) coder.old out.old coder.new out.new) }
 {
     match kept {
         Record::Ins(insert) => coder.visit(
+            out,
             &[],
             &[Some(insert.parent), Some(insert.leaf), Some(insert.new)],
             &[],
@@ -50,7 +50,7 @@ fn visit_record(kept: Record, coder: &mut Coder) -> Result<(), OutOfMemory>
                 Some(delete.parent),
                 Some(delete.leaf),
             ];
-            coder.visit(&[kind], &nodes, &[named], &[])
+            coder.visit(out, &[kind], &nodes, &[named], &[])
         }
     }
 }
@@ -62,27 +62,29 @@ fn visit_delete_flag(
     update: UpdateWord,
     leaf: u16,
     coder: &mut Coder,
-) -> Result<(), OutOfMemory>
+    out: &mut Output,
+) -> Visit
     requires { IsPartBelow coder.old.nodes_below coder.old.records_below
         (search_part (SearchLoc.DFlag above parent update leaf)) }
-    ensures { OnOk result (coder.new ≡ with_part coder.old (search_part (SearchLoc.DFlag above parent update leaf))) }
+    ensures { OnOk result (IsVisited (search_part (SearchLoc.DFlag above parent update leaf))
+        coder.old out.old coder.new out.new) }
 {
     let (kind, named) = word_parts(above.update);
     let (last, other) = word_parts(update);
     let nodes = [Some(above.node), Some(parent), Some(leaf)];
-    coder.visit(&[4, kind, last], &nodes, &[named, other], &[])
+    coder.visit(out, &[4, kind, last], &nodes, &[named, other], &[])
 }
 
 /// Visits a place of a search.
 #[inline(always)]
-fn visit_search(at: SearchLoc, coder: &mut Coder) -> Result<(), OutOfMemory>
+fn visit_search(at: SearchLoc, coder: &mut Coder, out: &mut Output) -> Visit
     requires { IsPartBelow coder.old.nodes_below coder.old.records_below (search_part at) }
-    ensures { OnOk result (coder.new ≡ with_part coder.old (search_part at)) }
+    ensures { OnOk result (IsVisited (search_part at) coder.old out.old coder.new out.new) }
 {
     match at {
         SearchLoc::Update { above, parent } => {
             let (kind, node, named) = above_parts(above);
-            coder.visit(&[0, kind], &[node, Some(parent)], &[named], &[])
+            coder.visit(out, &[0, kind], &[node, Some(parent)], &[named], &[])
         }
         SearchLoc::Child {
             above,
@@ -92,6 +94,7 @@ fn visit_search(at: SearchLoc, coder: &mut Coder) -> Result<(), OutOfMemory>
             let (kind, node, named) = above_parts(above);
             let (last, other) = word_parts(update);
             coder.visit(
+                out,
                 &[1, kind, last],
                 &[node, Some(parent)],
                 &[named, other],
@@ -104,32 +107,38 @@ fn visit_search(at: SearchLoc, coder: &mut Coder) -> Result<(), OutOfMemory>
             leaf,
         } => {
             let (kind, named) = word_parts(update);
-            coder.visit(&[2, kind], &[Some(parent), Some(leaf)], &[named], &[])
+            coder.visit(out, &[2, kind], &[Some(parent), Some(leaf)], &[named], &[])
         }
         SearchLoc::InsOnly { parent, leaf } => {
-            coder.visit(&[3], &[Some(parent), Some(leaf)], &[], &[])
+            coder.visit(out, &[3], &[Some(parent), Some(leaf)], &[], &[])
         }
         SearchLoc::DFlag {
             above,
             parent,
             update,
             leaf,
-        } => visit_delete_flag(above, parent, update, leaf, coder),
+        } => visit_delete_flag(above, parent, update, leaf, coder, out),
     }
 }
 
 /// Visits a place.
 #[inline(always)]
-fn visit_place(place: &EllenLoc, coder: &mut Coder) -> Result<(), OutOfMemory>
+fn visit_place(place: &EllenLoc, coder: &mut Coder, out: &mut Output) -> Visit
     requires { IsPartBelow coder.old.nodes_below coder.old.records_below (place_part place.now) }
-    ensures { OnOk result (coder.new ≡ with_part coder.old (place_part place.now)) }
+    ensures { OnOk result (IsVisited (place_part place.now) coder.old out.old coder.new out.new) }
 {
     match place {
-        EllenLoc::Search(at) => visit_search(*at, coder),
+        EllenLoc::Search(at) => visit_search(*at, coder, out),
         EllenLoc::Help(at, resume) => {
             let (kind, side, other, record) = help_parts(*at);
             let facts = [5, kind, side, base_number(resume.base)];
-            coder.visit(&facts, &[other], &[Some(record)], resume.stack.as_slice())
+            coder.visit(
+                out,
+                &facts,
+                &[other],
+                &[Some(record)],
+                resume.stack.as_slice(),
+            )
         }
     }
 }
@@ -159,23 +168,23 @@ impl Parts for MemoryView<'_> {
     }
 
     #[inline(always)]
-    fn visit_node(&self, index: usize, coder: &mut Coder) -> Result<(), OutOfMemory> {
-        visit_node(self.memory.nodes.as_slice()[index], coder)
+    fn visit_node(&self, index: usize, coder: &mut Coder, out: &mut Output) -> Visit {
+        visit_node(self.memory.nodes.as_slice()[index], coder, out)
     }
 
     #[inline(always)]
-    fn visit_record(&self, index: usize, coder: &mut Coder) -> Result<(), OutOfMemory> {
+    fn visit_record(&self, index: usize, coder: &mut Coder, out: &mut Output) -> Visit {
         match self.memory.records.get(index) {
-            Some(kept) => visit_record(*kept, coder),
-            None => coder.visit(&[], &[], &[], &[]),
+            Some(kept) => visit_record(*kept, coder, out),
+            None => coder.visit(out, &[], &[], &[], &[]),
         }
     }
 
     #[inline(always)]
-    fn visit_held(&self, index: usize, coder: &mut Coder) -> Result<(), OutOfMemory> {
+    fn visit_held(&self, index: usize, coder: &mut Coder, out: &mut Output) -> Visit {
         match &self.threads[index].place {
-            Some(place) => visit_place(place, coder),
-            None => coder.visit(&[], &[], &[], &[]),
+            Some(place) => visit_place(place, coder, out),
+            None => coder.visit(out, &[], &[], &[], &[]),
         }
     }
 }

@@ -1,14 +1,13 @@
 //! Shows a memory, and what the threads hold, to a coder as parts, with the numbers of nodes apart from all else.
 ghost use Rattle.std.specs.Prelude.{◌≡◌, ◌<◌, ◌∷◌, [], Some, OnOk};
 ghost use Rattle.tree_machine.specs.Alike.{places_of};
-ghost use Rattle.tree_machine.specs.Coding.{with_part};
+ghost use Rattle.tree_machine.specs.Coding.{IsVisited};
 ghost use Rattle.tree_machine.specs.Parts.{IsPartBelow};
 ghost use Rattle.natmit.specs.Parts.{mark_number, side_number, owned, node_part, path_part, place_part, natmit_parts};
 
 use crate::memory::{NatMitMem, Node, Word};
 use crate::place::{Mode, NatMitLoc, Path};
-use sched_program::OutOfMemory;
-use tree_machine::{Coder, Parts, Side, Thread};
+use tree_machine::{Coder, Output, Parts, Side, Thread, Visit};
 
 /// The number of a side.
 fn side_number(side: Side) -> u8
@@ -41,13 +40,14 @@ fn mark_number(word: Word) -> u8
 
 /// Lets a coder visit a node: its key, and of an internal one its children with their flags and tags.
 #[inline(always)]
-fn visit_node(node: Node, coder: &mut Coder) -> Result<(), OutOfMemory>
+fn visit_node(node: Node, coder: &mut Coder, out: &mut Output) -> Visit
     requires { IsPartBelow coder.old.nodes_below coder.old.records_below (node_part node) }
-    ensures { OnOk result (coder.new ≡ with_part coder.old (node_part node)) }
+    ensures { OnOk result (IsVisited (node_part node) coder.old out.old coder.new out.new) }
 {
     match node {
-        Node::Leaf { key } => coder.visit(&[key], &[], &[], &[]),
+        Node::Leaf { key } => coder.visit(out, &[key], &[], &[], &[]),
         Node::Internal { key, left, right } => coder.visit(
+            out,
             &[key, mark_number(left) + 4 * mark_number(right)],
             &[Some(left.node), Some(right.node)],
             &[],
@@ -63,10 +63,11 @@ fn visit_path(
     path: Path,
     last: Option<u16>,
     coder: &mut Coder,
-) -> Result<(), OutOfMemory>
+    out: &mut Output,
+) -> Visit
     requires { IsPartBelow coder.old.nodes_below coder.old.records_below
         (path_part facts.now path (last ∷ [])) }
-    ensures { OnOk result (coder.new ≡ with_part coder.old (path_part facts.now path (last ∷ []))) }
+    ensures { OnOk result (IsVisited (path_part facts.now path (last ∷ [])) coder.old out.old coder.new out.new) }
 {
     let nodes = [
         Some(path.ancestor),
@@ -74,23 +75,24 @@ fn visit_path(
         Some(path.parent),
         last,
     ];
-    coder.visit(facts, &nodes, &[], &[])
+    coder.visit(out, facts, &nodes, &[], &[])
 }
 
 /// Lets a coder visit a place: which one it is, and its locals.
 #[inline(always)]
-fn visit_place(place: NatMitLoc, coder: &mut Coder) -> Result<(), OutOfMemory>
+fn visit_place(place: NatMitLoc, coder: &mut Coder, out: &mut Output) -> Visit
     requires { IsPartBelow coder.old.nodes_below coder.old.records_below (place_part place) }
-    ensures { OnOk result (coder.new ≡ with_part coder.old (place_part place)) }
+    ensures { OnOk result (IsVisited (place_part place) coder.old out.old coder.new out.new) }
 {
     match place {
-        NatMitLoc::Begin { mode } => coder.visit(&[1], &[owned(mode)], &[], &[]),
+        NatMitLoc::Begin { mode } => coder.visit(out, &[1], &[owned(mode)], &[], &[]),
         NatMitLoc::Down {
             path,
             leaf,
             tag,
             mode,
         } => coder.visit(
+            out,
             &[2, u8::from(tag)],
             &[
                 Some(path.ancestor),
@@ -102,15 +104,15 @@ fn visit_place(place: NatMitLoc, coder: &mut Coder) -> Result<(), OutOfMemory>
             &[],
             &[],
         ),
-        NatMitLoc::Put { path, leaf } => visit_path(&[3], path, Some(leaf), coder),
-        NatMitLoc::Flag { path, leaf } => visit_path(&[4], path, Some(leaf), coder),
-        NatMitLoc::Look { path, leaf } => visit_path(&[5], path, Some(leaf), coder),
-        NatMitLoc::CleanRead { path, mode } => visit_path(&[6], path, owned(mode), coder),
+        NatMitLoc::Put { path, leaf } => visit_path(&[3], path, Some(leaf), coder, out),
+        NatMitLoc::Flag { path, leaf } => visit_path(&[4], path, Some(leaf), coder, out),
+        NatMitLoc::Look { path, leaf } => visit_path(&[5], path, Some(leaf), coder, out),
+        NatMitLoc::CleanRead { path, mode } => visit_path(&[6], path, owned(mode), coder, out),
         NatMitLoc::Tag { path, side, mode } => {
-            visit_path(&[7, side_number(side)], path, owned(mode), coder)
+            visit_path(&[7, side_number(side)], path, owned(mode), coder, out)
         }
         NatMitLoc::Sibling { path, side, mode } => {
-            visit_path(&[8, side_number(side)], path, owned(mode), coder)
+            visit_path(&[8, side_number(side)], path, owned(mode), coder, out)
         }
         NatMitLoc::Swing {
             ancestor: a,
@@ -119,6 +121,7 @@ fn visit_place(place: NatMitLoc, coder: &mut Coder) -> Result<(), OutOfMemory>
             node,
             mode,
         } => coder.visit(
+            out,
             &[9, u8::from(flag)],
             &[Some(a), Some(s), Some(node), owned(mode)],
             &[],
@@ -152,20 +155,20 @@ impl Parts for MemoryView<'_> {
     }
 
     #[inline(always)]
-    fn visit_node(&self, index: usize, coder: &mut Coder) -> Result<(), OutOfMemory> {
-        visit_node(self.mem.nodes.as_slice()[index], coder)
+    fn visit_node(&self, index: usize, coder: &mut Coder, out: &mut Output) -> Visit {
+        visit_node(self.mem.nodes.as_slice()[index], coder, out)
     }
 
     #[inline(always)]
-    fn visit_record(&self, _index: usize, coder: &mut Coder) -> Result<(), OutOfMemory> {
-        coder.visit(&[], &[], &[], &[])
+    fn visit_record(&self, _index: usize, coder: &mut Coder, out: &mut Output) -> Visit {
+        coder.visit(out, &[], &[], &[], &[])
     }
 
     #[inline(always)]
-    fn visit_held(&self, index: usize, coder: &mut Coder) -> Result<(), OutOfMemory> {
+    fn visit_held(&self, index: usize, coder: &mut Coder, out: &mut Output) -> Visit {
         match self.threads[index].place {
-            Some(place) => visit_place(place, coder),
-            None => coder.visit(&[], &[], &[], &[]),
+            Some(place) => visit_place(place, coder, out),
+            None => coder.visit(out, &[], &[], &[], &[]),
         }
     }
 }

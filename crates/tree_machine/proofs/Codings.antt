@@ -1,14 +1,14 @@
--- Parts that a coder writes: what it numbered keeps its numbers, and what has numbers gets no others.
+-- Parts that a coder visits: what it numbered keeps its numbers, and what has numbers gets no others.
 use Rattle.std.proofs.Common.{◌≡◌, ℕ, suc, ◌||◌, Bool, cond, true, false, List, [], ◌∷◌, ◌++◌, map, length, drop}
-use Rattle.std.proofs.Common.{refl, sym, ◌∙◌, ap, append_assoc, append-nil}
+use Rattle.std.proofs.Common.{refl, sym, ◌∙◌, ap}
 use Rattle.std.specs.Prelude.{Option, Some, None, nat_eq}
 use Rattle.std.specs.List.{list_any}
 use Rattle.std.specs.Option.{option_and_then, option_map}
 use Rattle.std.proofs.Math.Seq.{drop-append_seam}
 use Rattle.tree_machine.specs.Canonical.{renamed_part}
 use Rattle.tree_machine.specs.Cells.{met_all, place_in}
-use Rattle.tree_machine.specs.Coding.{Coding, coded_by, newly, with_names, with_part, with_parts}
-use Rattle.tree_machine.specs.Flat.{part_codes}
+use Rattle.tree_machine.specs.Coding.{Coding, coded_parts, newly, with_part, with_parts}
+use Rattle.tree_machine.specs.Flat.{cell_code, part_codes, part_content}
 use Rattle.tree_machine.specs.Parts.{Part}
 use Rattle.tree_machine.specs.Laws.CellOrder.{Extends, Has, HasAll, extends_itself, extends_more}
 use Rattle.tree_machine.specs.Laws.CellOrder.{met_all_extends, met_all_has}
@@ -53,15 +53,13 @@ pub records_extend : (c : Coding) (ps : List Part) → Extends c.records (with_p
 records_extend c [] = extends_itself c.records
 records_extend c (p ∷ ps) = extends_more (met_all_extends p.records c.records) (records_extend (with_part c p) ps)
 
--- what parts append: by the numbers that they have at the end, or by more
+-- parts in bytes: by the numbers that there are at the end, or by more
 pub parts_written : (c : Coding) (ps : List Part) (nodes records : List ℕ) → Extends (with_parts c ps).nodes nodes
     → Extends (with_parts c ps).records records
-    → (with_parts c ps).bytes ≡ c.bytes ++ part_codes (map (renamed_part nodes records) ps)
-parts_written c [] nodes records e f = sym (append-nil c.bytes)
+    → coded_parts c ps ≡ part_codes (map (renamed_part nodes records) ps)
+parts_written c [] nodes records e f = refl
 parts_written c (p ∷ ps) nodes records e f =
     let then = with_part c p in
     let here = renamed_kept p (extends_more (nodes_extend then ps) e) (extends_more (records_extend then ps) f)
     (met_all_has p.nodes c.nodes) (met_all_has p.records c.records) in
-    parts_written then ps nodes records e f
-    ∙ append_assoc c.bytes (coded_by (with_names c p) p) (part_codes (map (renamed_part nodes records) ps))
-    ∙ ap (λ q. c.bytes ++ part_codes (q ∷ map (renamed_part nodes records) ps)) (sym here)
+    λ i. cell_code (part_content (sym here i)) ++ parts_written then ps nodes records e f i

@@ -34,15 +34,14 @@ front_alike {A} {xs} f g e same = rw (e.is, map-append f xs e.rest, ← length-m
 
 module _ (fixed : ℕ) (s : Parts) (h : ArePartsInRange fixed s) where
   -- a walk begins with the fixed nodes in the queue
-  pub front_begun : (bytes : List ℕ) → IsWalk s (numbers_from 0 fixed) [] 0 (record {
+  pub front_begun : IsWalk s (numbers_from 0 fixed) [] 0 (record {
     nodes_below = length s.nodes;
     records_below = length s.records;
     nodes = numbers_from 0 fixed;
     records = [];
     queue = numbers_from 0 fixed;
-    bytes = bytes;
   })
-  front_begun bytes =
+  front_begun =
       let first = numbers_from 0 fixed in
       let l : fixed ≤ length s.nodes = h.fixed_in_range in
       let below = numbers_all (λ x. x < length s.nodes) 0 fixed (λ x g k. omega arith) in

@@ -5,7 +5,7 @@ use Rattle.std.specs.Prelude.{slice_get, Option, Some, None}
 use Rattle.std.proofs.Math.Seq.{drop-length}
 use Rattle.tree_machine.specs.Canonical.{as_cells}
 use Rattle.tree_machine.specs.Cells.{content_at, met_all}
-use Rattle.tree_machine.specs.Coding.{Coding, IsWalk, with_names}
+use Rattle.tree_machine.specs.Coding.{Coding, IsWalk, with_part}
 use Rattle.tree_machine.specs.Parts.{Part, Parts, part_at, part_cell, parts_graph, parts_held, ArePartsInRange}
 use Rattle.tree_machine.specs.Parts.{IsPartBelow}
 use Rattle.tree_machine.specs.Laws.CellOrder.{HasAll, all_has, get_append}
@@ -25,7 +25,7 @@ met_all_old (Some x ∷ refs) order h =
     ap (λ o. met_all o refs) (met_old order x h.0) ∙ met_all_old refs order h.1
 
 -- names that have numbers get no others
-names_old : (c : Coding) (p : Part) → IsPartMet c.nodes c.records p → with_names c p ≡ c
+names_old : (c : Coding) (p : Part) → IsPartMet c.nodes c.records p → with_part c p ≡ c
 names_old c p h =
     rw (met_all_old p.nodes c.nodes h.0, met_all_old p.records c.records h.1) (simp (drop-length, append-nil))
 
@@ -67,5 +67,5 @@ module _ {fixed : ℕ} (s : Parts) (range : ArePartsInRange fixed s) (c : Coding
       let p = front_part k x.0 x.1 in
       rw (← add-one k)
       (subst (IsWalk s (front ++ more) (front ++ more) (k + 1)) (names_old c p.0 p.3)
-      (walk_next s (front ++ more) (front ++ more) k c x.0 p.0 c.bytes (front_walked w k (omega arith))
+      (walk_next s (front ++ more) (front ++ more) k c x.0 p.0 (front_walked w k (omega arith))
       (get_append (front ++ more) c.queue k x.0 (get_append front more k x.0 x.1)) p.1 p.2))

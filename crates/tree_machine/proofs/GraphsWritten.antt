@@ -20,16 +20,16 @@ counted keep f append before queue all count n e count_is n_is =
     omega (arith, length-map (keep queue) f, many)
 
 -- the counts are set once all is visited, and the records come behind the nodes
-pub graph_written : {s : Parts} {roots before : List ℕ} {v : ℕ} {c set end : Coding} → IsWalk s roots before v c
-    → (old : List ℕ) {apart : List ℕ} {place nodes others n r : ℕ} → place ≡ length old
-    → c.bytes ≡ (old ++ 0 ∷ 0 ∷ []) ++ part_codes (nodes_by c s c.queue) → apart ≡ part_codes (records_by c s c.queue)
+pub graph_written : {s : Parts} {roots before : List ℕ} {v : ℕ} {c : Coding} → IsWalk s roots before v c
+    → (old : List ℕ) {put apart set end : List ℕ} {place nodes others n r : ℕ} → place ≡ length old
+    → put ≡ (old ++ 0 ∷ 0 ∷ []) ++ part_codes (nodes_by c s c.queue) → apart ≡ part_codes (records_by c s c.queue)
     → nodes ≡ length c.nodes → nodes < 255 → others ≡ length c.records → others < 255
     → n ≡ length (nodes_met (length s.nodes) before)
     → r ≡ length (records_met (length s.nodes) (length s.records) before)
-    → set ≡ record c { bytes = take place c.bytes ++ ((nodes - n) ∷ (others - r) ∷ drop (place + 2) c.bytes) }
-    → end ≡ record set { bytes = set.bytes ++ apart }
-    → end.bytes ≡ old ++ graph_code (nodes_by end s end.queue) (records_by end s end.queue)
-graph_written {s} {before} {c} w old {nodes} {others} {n} {r} hp hc ha en few er least hn hr hs he =
+    → set ≡ take place put ++ ((nodes - n) ∷ (others - r) ∷ drop (place + 2) put) → end ≡ set ++ apart
+    → end ≡ old ++ graph_code (nodes_by c s c.queue) (records_by c s c.queue)
+graph_written {s} {before} {c} w old {nodes = nodes} {others = others} {n = n} {r = r} hp hc ha en few er least hn hr
+    hs he =
     let ns = nodes_by c s c.queue in
     let rs = records_by c s c.queue in
     let behind = 0 ∷ 0 ∷ part_codes ns in

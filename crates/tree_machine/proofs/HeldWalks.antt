@@ -9,7 +9,7 @@ use Rattle.std.proofs.lemmas.Option.{slice_get_past}
 use Rattle.tree_machine.specs.Canonical.{as_cells, nodes_met, records_met, renamed_part}
 use Rattle.tree_machine.specs.Canonical.{canonical_parts, canonical_front, front_nodes, front_records}
 use Rattle.tree_machine.specs.Cells.{Content, IsRooted, content_at, met_in, order_of}
-use Rattle.tree_machine.specs.Coding.{Coding, IsWalk, with_part, with_parts, nodes_by, records_by}
+use Rattle.tree_machine.specs.Coding.{Coding, IsWalk, coded_parts, with_part, with_parts, nodes_by, records_by}
 use Rattle.tree_machine.specs.Flat.{behind_code, graph_code, left_code}
 use Rattle.tree_machine.specs.Graphs.{numbers_from}
 use Rattle.tree_machine.specs.Parts.{Part, Parts, part_at, part_cell, parts_graph, parts_held, ArePartsInRange}
@@ -83,7 +83,7 @@ module _ (s : Parts) (roots : List ℕ) where
       rw long
       (parts_walked (v + 1) (with_part c p) ps
       (λ i l. (let next : v + 1 + i ≡ v + suc i = omega arith in rw next (at (suc i) (omega arith))))
-      (walk_next s roots roots v c here.0 p (with_part c p).bytes w (get_append roots c.queue v here.0 here.1) here.2
+      (walk_next s roots roots v c here.0 p w (get_append roots c.queue v here.0 here.1) here.2
       here.3))
 
 -- ---- behind a front
@@ -93,7 +93,7 @@ parts_left : (f : ℕ → Part) (xs ys zs : List ℕ) → zs ≡ xs ++ ys → dr
 parts_left f xs ys zs e = rw (e, map-append f xs ys, ← length-map xs f, drop-append_seam)
 
 module _ {fixed : ℕ} {s : Parts} {old : Coding} (h : HasFront fixed s old) where
-  -- the coder with an empty queue, and once what the threads hold is written
+  -- the coder with an empty queue, and once what the threads hold is visited
   abbrev c : Coding
   c = record old { queue = [] }
 
@@ -172,9 +172,10 @@ module _ {fixed : ℕ} {s : Parts} {old : Coding} (h : HasFront fixed s old) whe
     all_records = rw (w.records, records_append (length s.nodes) (length s.records) roots d.queue, root_records)
 
     -- where its queue is written behind what the threads hold, all that is behind the front is written
-    behind_written : d.bytes ≡ held.bytes ++ left_code (nodes_by d s d.queue) (records_by d s d.queue)
-        → d.bytes ≡ old.bytes ++ behind_code (canonical_front fixed s) (canonical_parts fixed s)
-    behind_written put =
+    behind_written : (bytes : List ℕ) {then end : List ℕ} → then ≡ bytes ++ coded_parts c s.held
+        → end ≡ then ++ left_code (nodes_by d s d.queue) (records_by d s d.queue)
+        → end ≡ bytes ++ behind_code (canonical_front fixed s) (canonical_parts fixed s)
+    behind_written bytes first put =
         rw (
           ← h.nodes,
           ← h.records,
@@ -184,26 +185,28 @@ module _ {fixed : ℕ} {s : Parts} {old : Coding} (h : HasFront fixed s old) whe
           parts_left (λ x. renamed_part d.nodes d.records (part_at s.nodes x)) old.nodes _ d.nodes all_nodes,
           parts_left (λ y. renamed_part d.nodes d.records (part_at s.records y)) old.records _ d.records all_records,
         )
-        ((rw (parts_written c s.held d.nodes d.records more_nodes more_records) at put)
-        ∙ append_assoc old.bytes _ _)
+        ((rw (first, parts_written c s.held d.nodes d.records more_nodes more_records) at put)
+        ∙ append_assoc bytes _ _)
 
   -- where what the threads hold names nothing new, nothing is left
-  pub none_left : length held.nodes ≡ length old.nodes → length held.records ≡ length old.records
-      → held.bytes ≡ old.bytes ++ behind_code (canonical_front fixed s) (canonical_parts fixed s)
-  none_left same alike =
+  pub none_left : (bytes : List ℕ) {then : List ℕ} → length held.nodes ≡ length old.nodes
+      → length held.records ≡ length old.records → then ≡ bytes ++ coded_parts c s.held
+      → then ≡ bytes ++ behind_code (canonical_front fixed s) (canonical_parts fixed s)
+  none_left bytes {then} same alike first =
       let queued = nil_from_length held.queue (omega (arith, queue_long c s.held, same, alike)) in
       let met = rw (queued, append-nil roots) at held_walked.met in
       let past : slice_get (met_in cells roots (length roots)) (length roots) ≡ None =
       rw (← met) (slice_get_past roots (length roots) (omega arith)) in
-      behind_written held_walked (held_walked.met ∙ met_in_ended cells roots rooted (length roots) past)
-      (rw queued (sym (append-nil held.bytes)))
+      behind_written held_walked (held_walked.met ∙ met_in_ended cells roots rooted (length roots) past) bytes first
+      (rw queued (sym (append-nil then)))
 
   -- what is left is written behind them
-  pub all_left : (d : Coding) → (length held.nodes ≡ length old.nodes → length held.records ≡ length old.records → ⊥)
-      → IsWalk s roots roots (length cells) d
-      → d.bytes ≡ held.bytes ++ graph_code (nodes_by d s d.queue) (records_by d s d.queue)
-      → d.bytes ≡ old.bytes ++ behind_code (canonical_front fixed s) (canonical_parts fixed s)
-  all_left d some w put =
+  pub all_left : (d : Coding) (bytes : List ℕ) {then end : List ℕ}
+      → (length held.nodes ≡ length old.nodes → length held.records ≡ length old.records → ⊥)
+      → then ≡ bytes ++ coded_parts c s.held → IsWalk s roots roots (length cells) d
+      → end ≡ then ++ graph_code (nodes_by d s d.queue) (records_by d s d.queue)
+      → end ≡ bytes ++ behind_code (canonical_front fixed s) (canonical_parts fixed s)
+  all_left d bytes {then} some first w put =
       let some_left : 0 < length (nodes_by d s d.queue) + length (records_by d s d.queue) =
       grind (
         arith,
@@ -217,7 +220,7 @@ module _ {fixed : ℕ} {s : Parts} {old : Coding} (h : HasFront fixed s old) whe
         length-append {A = ℕ},
         length-map {A = ℕ} {B = Part},
       ) in
-      behind_written w w.met (put ∙ ap (λ l. held.bytes ++ l) (sym (left_some _ _ some_left)))
+      behind_written w w.met bytes first (put ∙ ap (λ l. then ++ l) (sym (left_some _ _ some_left)))
 
   -- the nodes and the records that had numbers before are those of the front
   pub front_kept : roots_of s (take (length old.nodes) held.nodes) (take (length old.records) held.records) ≡ roots

@@ -6,10 +6,9 @@ use Rattle.std.specs.List.{flat_map}
 use Rattle.std.proofs.Math.Seq.{drop-append_seam}
 use Rattle.std.proofs.lemmas.Grind.{flat_map-append}
 use Rattle.std.proofs.lemmas.List.{length-map, map-append, map-id}
-use Rattle.tree_machine.specs.Canonical.{renamed_part}
 use Rattle.tree_machine.specs.Cells.{met_all}
-use Rattle.tree_machine.specs.Coding.{Coding, name_code, newly, with_part}
-use Rattle.tree_machine.specs.Flat.{cell_code, facts_code, part_content, number_code, reference_number}
+use Rattle.tree_machine.specs.Coding.{Coding, IsVisited, name_code, newly}
+use Rattle.tree_machine.specs.Flat.{facts_code, number_code, reference_number}
 use Rattle.tree_machine.specs.Parts.{Part}
 use Rattle.tree_machine.specs.Laws.CellOrder.{Extends, HasAll, met_all_extends, met_all_has}
 use Rattle.tree_machine.proofs.Codings.{met_newly, names_kept}
@@ -67,22 +66,21 @@ module _ {first : ℕ} {refs : List (Option ℕ)} {old queue bytes now then put 
         written = p ∙ ap (λ l. put ++ l) (n ∙ sym (append-nil (name_code next name)));
       })
 
--- once the nodes, the records and the stack of a part are numbered and written
-pub part_visited : {n r : ℕ} {nodes records queue bytes front : List ℕ} (old : Coding)
-    → record { nodes_below = n; records_below = r; nodes = nodes; records = records; queue = queue; bytes = bytes }
-    ≡ old
+-- once the nodes, the records and the stack of a part are numbered and written, it is visited
+pub part_visited : {n r : ℕ} {nodes records queue front : List ℕ} (bytes : List ℕ) (old : Coding)
+    → record { nodes_below = n; records_below = r; nodes = nodes; records = records; queue = queue } ≡ old
     → (facts : List ℕ) (ns rs : List (Option ℕ)) (stack : List ℕ)
     → front ≡ bytes ++ facts_code (length ns ∷ facts) (length ns + length rs + length stack)
     → {m k f : ℕ} → m ≡ n → k ≡ r → f ≡ n → {then first second queue_1 queue_2 queue_3 put_1 put_2 put_3 : List ℕ}
     → AreNamed 0 ns nodes queue front then queue_1 put_1 → AreNamed f rs records queue_1 put_1 first queue_2 put_2
     → AreNamed f (map Some stack) first queue_2 put_2 second queue_3 put_3
-    → record { nodes_below = m; records_below = k; nodes = then; records = second; queue = queue_3; bytes = put_3 }
-    ≡ with_part old (record { facts = facts; nodes = ns; records = rs ++ map Some stack })
-part_visited {bytes} old view facts ns rs stack fe em ek ef {then} {second} {put_3} a b c =
+    → IsVisited (record { facts = facts; nodes = ns; records = rs ++ map Some stack }) old bytes
+    (record { nodes_below = m; records_below = k; nodes = then; records = second; queue = queue_3 }) put_3
+part_visited bytes old view facts ns rs stack fe em ek ef {then} {second = second} a b c =
     let p : Part = record { facts = facts; nodes = ns; records = rs ++ map Some stack } in
     let d = named_more b c in
     let named : length ns + length rs + length stack ≡ length ns + length (rs ++ map Some stack) =
-    omega (arith, length-append rs (map Some stack), length-map stack (λ x. Some x)) in
-    let code : put_3 ≡ bytes ++ cell_code (part_content (renamed_part then second p)) =
-    rw (← part_written then second p, d.written, a.written, fe, named) (simp append_assoc) in
-    rw (← view, code, d.queued, a.queued, ef, em, ek, a.order, d.order) (simp (zero-add, map-id))
+    omega (arith, length-append rs (map Some stack), length-map stack (λ x. Some x)) in (
+      rw (← view, d.queued, a.queued, ef, em, ek, a.order, d.order) (simp (zero-add, map-id)),
+      rw (← part_written then second p, d.written, a.written, fe, named) (simp append_assoc),
+    )

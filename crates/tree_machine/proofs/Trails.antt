@@ -11,7 +11,7 @@ use Rattle.std.proofs.lemmas.List.Elements.{filter-append, All-append, recursion
 use Rattle.std.proofs.lemmas.Option.{slice_get_past, slice_get_within, get_or_from_slice_get}
 use Rattle.tree_machine.specs.Canonical.{nodes_met, records_met, renamed_part}
 use Rattle.tree_machine.specs.Cells.{Content, content_at, met_all, met_in, order_of, IsRooted}
-use Rattle.tree_machine.specs.Coding.{Coding, IsWalk, coded_by, nodes_by, records_by, with_names, with_part}
+use Rattle.tree_machine.specs.Coding.{Coding, IsVisited, IsWalk, coded_by, nodes_by, records_by, with_part}
 use Rattle.tree_machine.specs.Flat.{cell_code, part_codes, part_content}
 use Rattle.tree_machine.specs.Parts.{Part, Parts, ArePartsInRange, IsPartBelow, part_at}
 use Rattle.tree_machine.specs.Parts.{part_cell, parts_graph, parts_held}
@@ -56,25 +56,25 @@ get_behind (x ∷ xs) ys k =
     let e : suc (length xs) + k ≡ suc (length xs + k) = omega arith in
     ap (slice_get ((x ∷ xs) ++ ys)) e ∙ get_behind xs ys k
 
--- a walk that visits the part at the place of its visits, whatever it writes
-pub walk_next : (s : Parts) (roots before : List ℕ) (v : ℕ) (c : Coding) (x : ℕ) (p : Part) (bytes : List ℕ)
+-- a walk that visits the part at the place of its visits
+pub walk_next : (s : Parts) (roots before : List ℕ) (v : ℕ) (c : Coding) (x : ℕ) (p : Part)
     → IsWalk s roots before v c → slice_get (before ++ c.queue) v ≡ Some x
     → content_at (parts_graph s ++ parts_held s) x ≡ part_cell (length s.nodes) p
     → IsPartBelow (length s.nodes) (length s.records) p
-    → IsWalk s roots before (v + 1) (record (with_names c p) { bytes = bytes })
-walk_next s roots before v c x p bytes w at is below =
+    → IsWalk s roots before (v + 1) (with_part c p)
+walk_next s roots before v c x p w at is below =
     let n = length s.nodes in
     let r = length s.records in
     let m = before ++ c.queue in
     let met = part_met n r p m below in
     let more = new_cells n r p m in
-    let joined : (with_names c p).queue ≡ c.queue ++ more =
+    let joined : (with_part c p).queue ≡ c.queue ++ more =
     rw (w.nodes, w.records, w.nodes_below) (append_assoc c.queue _ _) in
-    let all : before ++ (with_names c p).queue ≡ m ++ more =
+    let all : before ++ (with_part c p).queue ≡ m ++ more =
     ap (λ q. before ++ q) joined ∙ sym (append_assoc before c.queue more) in
     record {
       met =
-          met_in_next (parts_graph s ++ parts_held s) roots m (before ++ (with_names c p).queue) v x w.met at
+          met_in_next (parts_graph s ++ parts_held s) roots m (before ++ (with_part c p).queue) v x w.met at
           (all ∙ sym met.cells ∙ ap (λ (d : Content). met_all m d.refs) (sym is));
       nodes = ap (λ l. met_all l p.nodes) w.nodes ∙ met.nodes ∙ ap (nodes_met n) (sym all);
       records = ap (λ l. met_all l p.records) w.records ∙ met.records ∙ ap (records_met n r) (sym all);
@@ -92,17 +92,17 @@ AreWritten s front apart cells bytes out end =
     (bytes ≡ front ++ part_codes (nodes_by end s cells)) × (out ≡ apart ++ part_codes (records_by end s cells))
 
 -- a walk that visited so many cells of its queue, and wrote them by numbers that stay
-pub record IsTrail (s : Parts) (roots before : List ℕ) (k : ℕ) (front apart : List ℕ) (c : Coding) (out : List ℕ)
-    : Type 0 where
+pub record IsTrail (s : Parts) (roots before : List ℕ) (k : ℕ) (front apart : List ℕ) (c : Coding)
+    (bytes out : List ℕ) : Type 0 where
   pub walk : IsWalk s roots before (length before + k) c
   pub written : (end : Coding) → Extends c.nodes end.nodes → Extends c.records end.records
-      → AreWritten s front apart (take k c.queue) c.bytes out end
+      → AreWritten s front apart (take k c.queue) bytes out end
 
 -- before the first visit nothing is written
-pub trail_begun : {s : Parts} {roots before : List ℕ} {c : Coding} {out : List ℕ}
-    → IsWalk s roots before (length before) c → IsTrail s roots before 0 c.bytes out c out
-trail_begun {c = c} {out = out} w =
-    record { walk = rw add-zero w; written = λ end e f. (sym (append-nil c.bytes), sym (append-nil out)) }
+pub trail_begun : {s : Parts} {roots before : List ℕ} {c : Coding} {bytes out : List ℕ}
+    → IsWalk s roots before (length before) c → IsTrail s roots before 0 bytes out c bytes out
+trail_begun {bytes = bytes} {out = out} w =
+    record { walk = rw add-zero w; written = λ end e f. (sym (append-nil bytes), sym (append-nil out)) }
 
 -- more cells behind them
 more_written : (s : Parts) (front apart cells bytes out some more then : List ℕ) (end : Coding)
@@ -115,7 +115,7 @@ more_written s front apart cells bytes out some more then end old new = (
 
 -- the visited cells of a queue, once the next one is visited
 visited_next : (c : Coding) (p : Part) (k x : ℕ) → slice_get c.queue k ≡ Some x
-    → take (k + 1) (with_names c p).queue ≡ take k c.queue ++ x ∷ []
+    → take (k + 1) (with_part c p).queue ≡ take k c.queue ++ x ∷ []
 visited_next c p k x at =
     let within : k < length c.queue = slice_get_within c.queue k x at in
     rw append_assoc
@@ -123,66 +123,67 @@ visited_next c p k x at =
     ∙ ap (λ y. take k c.queue ++ y ∷ []) (get_or_from_slice_get c.queue k x 0 at))
 
 -- each cell of a queue that is visited is written
-module _ {s : Parts} {roots before : List ℕ} {k : ℕ} {front apart : List ℕ} {c : Coding} {out : List ℕ}
-    (t : IsTrail s roots before k front apart c out) where
+module _ {s : Parts} {roots before : List ℕ} {k : ℕ} {front apart : List ℕ} {c : Coding} {bytes out : List ℕ}
+    (t : IsTrail s roots before k front apart c bytes out) where
   module _ {fixed : ℕ} (h : ArePartsInRange fixed s) {x : ℕ} (at : slice_get c.queue k ≡ Some x) where
     -- once a part at the next place is visited, and is written in one of the places
-    then_trail : (p : Part) (bytes then : List ℕ)
+    then_trail : (p : Part) (put then : List ℕ)
         → content_at (parts_graph s ++ parts_held s) x ≡ part_cell (length s.nodes) p
         → IsPartBelow (length s.nodes) (length s.records) p
-        → ((end : Coding) → coded_by (with_names c p) p ≡ part_codes (renamed_part end.nodes end.records p ∷ [])
-        → AreWritten s c.bytes out (x ∷ []) bytes then end)
-        → IsTrail s roots before (k + 1) front apart (record (with_names c p) { bytes = bytes }) then
-    then_trail p bytes then is below put =
+        → ((end : Coding) → coded_by (with_part c p) p ≡ part_codes (renamed_part end.nodes end.records p ∷ [])
+        → AreWritten s bytes out (x ∷ []) put then end)
+        → IsTrail s roots before (k + 1) front apart (with_part c p) put then
+    then_trail p put then is below written =
         let v : length before + k + 1 ≡ length before + (k + 1) = omega arith in
         record {
           walk =
-              rw (← v) (walk_next s roots before (length before + k) c x p bytes t.walk
+              rw (← v) (walk_next s roots before (length before + k) c x p t.walk
               (get_behind before c.queue k ∙ at) is below);
           written = λ end e f.
               let kept = renamed_kept p e f (met_all_has p.nodes c.nodes) (met_all_has p.records c.records) in
               rw (visited_next c p k x at)
-              (more_written s front apart (take k c.queue) c.bytes out (x ∷ []) bytes then end
+              (more_written s front apart (take k c.queue) bytes out (x ∷ []) put then end
               (t.written end (extends_more (met_all_extends p.nodes c.nodes) e)
               (extends_more (met_all_extends p.records c.records) f))
-              (put end (ap (λ q. cell_code (part_content q)) (sym kept) ∙ sym (append-nil _))));
+              (written end (ap (λ q. cell_code (part_content q)) (sym kept) ∙ sym (append-nil _))));
         }
 
     -- a node is written behind the others, and a record apart
-    pub trail_next : (d : Coding) (then : List ℕ)
-        → (x < c.nodes_below → (d ≡ with_part c (part_at s.nodes x)) × (then ≡ out))
-        → (c.nodes_below ≤ x → (d ≡ with_names c (part_at s.records (x - c.nodes_below)))
-        × (then ≡ out ++ coded_by d (part_at s.records (x - c.nodes_below))))
-        → IsTrail s roots before (k + 1) front apart d then
-    trail_next d then node rest = go (grind arith)
+    pub trail_next : (d : Coding) (put then : List ℕ)
+        → (x < c.nodes_below → IsVisited (part_at s.nodes x) c bytes d put × (then ≡ out))
+        → (c.nodes_below ≤ x → IsVisited (part_at s.records (x - c.nodes_below)) c out d then × (put ≡ bytes))
+        → IsTrail s roots before (k + 1) front apart d put then
+    trail_next d put then node rest = go (grind arith)
       where
         n : ℕ
         n = length s.nodes
 
-        go : (x < c.nodes_below) ⊎ (c.nodes_below ≤ x) → IsTrail s roots before (k + 1) front apart d then
+        go : (x < c.nodes_below) ⊎ (c.nodes_below ≤ x) → IsTrail s roots before (k + 1) front apart d put then
         go (inl l) =
             let p = part_at s.nodes x in
             let within : x < n = omega (arith, t.walk.nodes_below) in
-            rw ((node l).0, (node l).1)
-            (then_trail p (with_part c p).bytes out (node_at s x within) (part_below s.nodes x refl refl h.nodes)
+            let e = node l in
+            rw (e.0.1, e.1, e.0.0)
+            (then_trail p (bytes ++ coded_by (with_part c p) p) out (node_at s x within)
+            (part_below s.nodes x refl refl h.nodes)
             (λ end code. rw (test_node n x within, test_before n (length s.records) x within)
-            (ap (λ l. c.bytes ++ l) code, sym (append-nil out))))
+            (ap (λ l. bytes ++ l) code, sym (append-nil out))))
         go (inr l) =
             let p = part_at s.records (x - n) in
-            let e = subst (λ b. (d ≡ with_names c (part_at s.records (x - b)))
-            × (then ≡ out ++ coded_by d (part_at s.records (x - b)))) t.walk.nodes_below (rest l) in
+            let e = subst (λ b. IsVisited (part_at s.records (x - b)) c out d then × (put ≡ bytes))
+            t.walk.nodes_below (rest l) in
             let behind : n ≤ x = omega (arith, t.walk.nodes_below) in
             let below : x < n + length s.records =
             all_has (λ x. x < n + length s.records) c.queue (recursion_from_All _ c.queue t.walk.graph) x
             (has_at c.queue k x at) in
             let y : n + (x - n) ≡ x = omega arith in
-            rw (e.1, e.0)
-            (then_trail p c.bytes (out ++ coded_by (with_names c p) p)
+            rw (e.0.1, e.1, e.0.0)
+            (then_trail p bytes (out ++ coded_by (with_part c p) p)
             (subst (λ x. content_at (parts_graph s ++ parts_held s) x ≡ part_cell n p) y
             (record_at s (x - n) (omega arith)))
             (part_below s.records (x - n) refl refl h.records)
             (λ end code. rw (test_other n x behind, test_record n (length s.records) x behind below)
-            (sym (append-nil c.bytes), ap (λ l. out ++ l) code)))
+            (sym (append-nil bytes), ap (λ l. out ++ l) code)))
 
   module _ (rooted : IsRooted (parts_graph s ++ parts_held s) roots) where
     -- after a visit for each cell the queue is visited
@@ -193,7 +194,7 @@ module _ {s : Parts} {roots before : List ℕ} {k : ℕ} {front apart : List ℕ
 
     -- where the queue is visited, all is met, and each name in it has its number
     pub trail_ended : length c.queue ≤ k → IsWalk s roots before (length (parts_graph s ++ parts_held s)) c
-        × AreWritten s front apart c.queue c.bytes out c
+        × AreWritten s front apart c.queue bytes out c
     trail_ended l =
         let w = t.walk in
         let v = length before + k in
@@ -207,6 +208,6 @@ module _ {s : Parts} {roots before : List ℕ} {k : ℕ} {front apart : List ℕ
             records_below = w.records_below;
             graph = w.graph;
           },
-          subst (λ q. AreWritten s front apart q c.bytes out c) (take_all k c.queue l)
+          subst (λ q. AreWritten s front apart q bytes out c) (take_all k c.queue l)
               (t.written c (extends_itself c.nodes) (extends_itself c.records)),
         )

@@ -1,4 +1,4 @@
--- What a coder has numbered and written so far.
+-- What a coder has numbered so far, and what it writes by that.
 use Rattle.std.specs.Prelude.{◌≡◌, ℕ, ◌+◌, ◌<◌, ◌≤◌, List, [], ◌∷◌, ◌++◌, map, length, drop, Option}
 use Rattle.std.specs.List.{All}
 use Rattle.std.specs.Option.{option_and_then}
@@ -8,15 +8,14 @@ use Rattle.tree_machine.specs.Graphs.{numbers_from}
 use Rattle.tree_machine.specs.Parts.{Part, Parts, part_at, parts_graph, parts_held}
 use Rattle.tree_machine.specs.Flat.{number_code, reference_number, cell_code, part_content}
 
--- how many nodes and records there are, those that have numbers, in the order of their numbers, the cells that got
--- theirs in this walk (records come behind the nodes), and the bytes
+-- how many nodes and records there are, those that have numbers, in the order of their numbers, and the cells that got
+-- theirs in this walk (records come behind the nodes)
 pub record Coding : Type 0 where
   pub nodes_below : ℕ
   pub records_below : ℕ
   pub nodes : List ℕ
   pub records : List ℕ
   pub queue : List ℕ
-  pub bytes : List ℕ
 
 -- what refs name that an order does not have, in the order met
 abbrev pub newly : List ℕ → List (Option ℕ) → List ℕ
@@ -27,8 +26,8 @@ abbrev pub name_code : List ℕ → Option ℕ → List ℕ
 name_code order r = number_code (reference_number (option_and_then (place_in order) r))
 
 -- once what a part names has numbers
-abbrev pub with_names : Coding → Part → Coding
-with_names c p = record c {
+abbrev pub with_part : Coding → Part → Coding
+with_part c p = record c {
   nodes = met_all c.nodes p.nodes;
   records = met_all c.records p.records;
   queue = (c.queue ++ newly c.nodes p.nodes) ++ map (λ x. c.nodes_below + x) (newly c.records p.records);
@@ -38,14 +37,19 @@ with_names c p = record c {
 abbrev pub coded_by : Coding → Part → List ℕ
 coded_by c p = cell_code (part_content (renamed_part c.nodes c.records p))
 
--- once a part is written
-abbrev pub with_part : Coding → Part → Coding
-with_part c p = record (with_names c p) { bytes = c.bytes ++ coded_by (with_names c p) p }
+-- a part is visited: what it names has numbers, and it is written behind the bytes that there were
+abbrev pub IsVisited : Part → Coding → List ℕ → Coding → List ℕ → Type 0
+IsVisited p old bytes new put = (new ≡ with_part old p) × (put ≡ bytes ++ coded_by new p)
 
--- once parts are written, one behind the other
+-- once what parts name has numbers, one part behind the other
 abbrev pub with_parts : Coding → List Part → Coding
 with_parts c [] = c
 with_parts c (p ∷ parts) = with_parts (with_part c p) parts
+
+-- parts in bytes, each by the numbers that there are once it is visited
+abbrev pub coded_parts : Coding → List Part → List ℕ
+coded_parts c [] = []
+coded_parts c (p ∷ parts) = coded_by (with_part c p) p ++ coded_parts (with_part c p) parts
 
 -- the nodes in a queue, as they are written
 abbrev pub nodes_by : Coding → Parts → List ℕ → List Part

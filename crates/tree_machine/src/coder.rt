@@ -3,7 +3,7 @@ ghost use Rattle.std.specs.Prelude.{◌≡◌, ◌<◌, ◌≤◌, ◌+◌, ◌+
 ghost use Rattle.std.specs.Prelude.{length, map, slice_get, take, drop, IfOk, IfSome, OnOk};
 ghost use Rattle.std.specs.List.{All, flat_map};
 ghost use Rattle.tree_machine.specs.Cells.{met_all};
-ghost use Rattle.tree_machine.specs.Coding.{name_code, newly, with_part, IsOwn};
+ghost use Rattle.tree_machine.specs.Coding.{name_code, newly, IsOwn, IsVisited};
 ghost use Rattle.tree_machine.specs.Graphs.{numbers_from};
 ghost use Rattle.tree_machine.specs.Parts.{IsPartBelow};
 ghost use Rattle.tree_machine.specs.declared.numbering.TheConstants.{CELLS_BELOW};
@@ -14,7 +14,6 @@ use crate::output::{Output, put_front};
 use sched_program::OutOfMemory;
 use std::alloc::Global;
 use std::marker::Model;
-use std::mem::swap;
 
 /// The number of what is named, or 0 for none. What has no number gets the next one, and goes into the queue, where its
 /// own number is raised by `first`. A cell that the queue can't name is refused with `OutOfMemory`.
@@ -128,7 +127,6 @@ pub struct Coder {
     nodes: Numbering,
     records: Numbering,
     queue: Vec<u8>,
-    out: Output,
 }
 
 impl Model for Coder {
@@ -143,7 +141,6 @@ impl Model for Coder {
       nodes = c.nodes.order.items;
       records = c.records.order.items;
       queue = c.queue.items;
-      bytes = c.out;
     } };
 }
 
@@ -156,19 +153,17 @@ impl Coder {
           nodes = [];
           records = [];
           queue = [];
-          bytes = [];
         } }
     {
         Coder {
             nodes: Numbering::none(alloc),
             records: Numbering::none(alloc),
             queue: Vec::new(alloc),
-            out: Output::none(alloc),
         }
     }
 
-    /// Begins anew, with the first nodes and the first records, each by its own number. The bytes stay. More nodes or
-    /// records than bytes can name are refused with `OutOfMemory`.
+    /// Begins anew, with the first nodes and the first records, each by its own number. More nodes or records than
+    /// bytes can name are refused with `OutOfMemory`.
     #[inline(always)]
     pub(crate) fn restart(
         &mut self,
@@ -179,15 +174,13 @@ impl Coder {
     ) -> Result<(), OutOfMemory>
         requires nodes { front_nodes ≤ nodes }
         requires records { front_records ≤ records }
-        ensures begun { OnOk result (self.new ≡ record {
+        ensures { OnOk result (self.new ≡ record {
           nodes_below = nodes;
           records_below = records;
           nodes = numbers_from 0 front_nodes;
           records = numbers_from 0 front_records;
           queue = [];
-          bytes = self.old.bytes;
         }) }
-        ensures bytes { self.new.bytes ≡ self.old.bytes }
     {
         self.queue.clear();
         self.nodes.restart(nodes)?;
@@ -213,7 +206,6 @@ impl Coder {
         requires { IsOwn 0 0 self.old }
         ensures own { IsOwn 0 0 self.new }
         ensures many { OnOk result (IsOwn nodes records self.new) }
-        ensures bytes { self.new.bytes ≡ self.old.bytes }
     {
         let (own_nodes, own_records) = self.bounds();
         if nodes <= own_nodes && records <= own_records {
@@ -256,7 +248,8 @@ impl Coder {
     /// How many nodes and how many records it may number.
     #[inline(always)]
     pub(crate) fn bounds(&self) -> (usize, usize)
-        ensures { (result.0 ≡ self.now.nodes_below) × (result.1 ≡ self.now.records_below) }
+        ensures bounds { (result.0 ≡ self.now.nodes_below) × (result.1 ≡ self.now.records_below) }
+        ensures small { (result.0 < 255) × (result.1 < 255) }
     {
         (self.nodes.cells(), self.records.cells())
     }
@@ -275,6 +268,7 @@ impl Coder {
     #[inline(always)]
     pub fn visit(
         &mut self,
+        out: &mut Output,
         facts: &[u8],
         nodes: &[Option<u16>],
         records: &[Option<u16>],
@@ -282,13 +276,14 @@ impl Coder {
     ) -> Result<(), OutOfMemory>
         requires { IsPartBelow self.old.nodes_below self.old.records_below
             (record { facts = facts.now; nodes = nodes.now; records = records.now ++ map Some stack.now }) }
-        ensures { OnOk result (self.new ≡ with_part self.old
-            (record { facts = facts.now; nodes = nodes.now; records = records.now ++ map Some stack.now })) }
+        ensures { OnOk result (IsVisited
+            (record { facts = facts.now; nodes = nodes.now; records = records.now ++ map Some stack.now })
+            self.old out.old self.new out.new) }
     {
         let named = nodes.len() + records.len() + stack.len();
-        let start = put_front(&mut self.out.bytes, self.out.at, nodes.len(), named, facts)?;
+        let start = put_front(&mut out.bytes, out.at, nodes.len(), named, facts)?;
         let first = self.nodes.cells();
-        let bytes = self.out.bytes.as_mut_slice();
+        let bytes = out.bytes.as_mut_slice();
         let nodes_end = put_names(&mut self.nodes, &mut self.queue, 0, bytes, start, nodes)?;
         let records_end = put_names(
             &mut self.records,
@@ -298,7 +293,7 @@ impl Coder {
             nodes_end,
             records,
         )?;
-        self.out.at = put_stack(
+        out.at = put_stack(
             &mut self.records,
             &mut self.queue,
             first,
@@ -309,56 +304,11 @@ impl Coder {
         Ok(())
     }
 
-    /// Appends a count of nodes and one of records, and returns their place.
-    #[inline(always)]
-    pub(crate) fn put_counts(&mut self, nodes: usize, records: usize) -> Result<usize, OutOfMemory>
-        requires nodes { nodes ≤ self.old.nodes_below }
-        requires records { records ≤ self.old.records_below }
-        ensures bytes { OnOk result (self.new ≡ record self.old {
-          bytes = self.old.bytes ++ (nodes ∷ records ∷ []);
-        }) }
-        ensures place { IfOk result (λ place. place ≡ length self.old.bytes) }
-        ensures small { (nodes < 255) × (records < 255) }
-    {
-        let place = self.out.len();
-        self.out.put_byte(nodes as u8)?;
-        self.out.put_byte(records as u8)?;
-        Ok(place)
-    }
-
-    /// Replaces these counts.
-    #[inline(always)]
-    pub(crate) fn set_counts(&mut self, place: usize, nodes: u8, records: u8)
-        requires { place + 2 ≤ length self.old.bytes }
-        ensures { self.new ≡ record self.old {
-          bytes = take place self.old.bytes ++ (nodes ∷ records ∷ drop (place + 2) self.old.bytes);
-        } }
-    {
-        self.out.set_counts(place, nodes, records);
-    }
-
-    /// Appends what was written apart.
-    #[inline(always)]
-    pub(crate) fn put_all(&mut self, other: &Output) -> Result<(), OutOfMemory>
-        ensures { OnOk result (self.new ≡ record self.old { bytes = self.old.bytes ++ other.now }) }
-    {
-        self.out.put(other.as_slice())
-    }
-
     /// Empties the queue.
     #[inline(always)]
     pub(crate) fn clear_queue(&mut self)
         ensures { self.new ≡ record self.old { queue = [] } }
     {
         self.queue.clear();
-    }
-
-    /// Writes to other bytes from here on, and leaves there what was written so far.
-    #[inline(always)]
-    pub(crate) fn exchange(&mut self, other: &mut Output)
-        ensures bytes { self.new ≡ record self.old { bytes = other.old } }
-        ensures other { other.new ≡ self.old.bytes }
-    {
-        swap(&mut self.out, other);
     }
 }

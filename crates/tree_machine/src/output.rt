@@ -135,7 +135,7 @@ pub(crate) fn put_front(
 /// What parts are written to. Contracts see the bytes written so far. What is written ends at a place in the bytes.
 /// Behind it there are spare bytes, so that most parts find room.
 #[derive(Drop)]
-pub(crate) struct Output {
+pub struct Output {
     pub(crate) bytes: Vec<u8>,
     pub(crate) at: usize,
     ghost within: { at ≤ length bytes.items },
@@ -224,12 +224,16 @@ impl Output {
         Ok(())
     }
 
-    /// How many bytes there are.
+    /// Appends a count of nodes and one of records, and returns their place.
     #[inline(always)]
-    pub(crate) fn len(&self) -> usize
-        ensures { result ≡ length self.now }
+    pub(crate) fn put_counts(&mut self, nodes: u8, records: u8) -> Result<usize, OutOfMemory>
+        ensures bytes { OnOk result (self.new ≡ self.old ++ (nodes ∷ records ∷ [])) }
+        ensures place { IfOk result (λ place. place ≡ length self.old) }
     {
-        self.at
+        let place = self.at;
+        self.put_byte(nodes)?;
+        self.put_byte(records)?;
+        Ok(place)
     }
 
     /// Replaces the two bytes at a place by a count of nodes and one of records.

@@ -4,8 +4,7 @@ ghost use Rattle.tree_machine.specs.Canonical.{canonical_code, canonical_front, 
 ghost use Rattle.tree_machine.specs.Canonical.{front_nodes, front_records, nodes_met, records_met};
 ghost use Rattle.tree_machine.specs.Canonical.{ArePartsRead, IsMetInOrder};
 ghost use Rattle.tree_machine.specs.Cells.{IsRooted};
-ghost use Rattle.tree_machine.specs.Coding.{coded_by, nodes_by, records_by, with_names, with_part, with_parts};
-ghost use Rattle.tree_machine.specs.Coding.{IsOwn, IsWalk};
+ghost use Rattle.tree_machine.specs.Coding.{coded_parts, nodes_by, records_by, with_parts, IsOwn, IsVisited, IsWalk};
 ghost use Rattle.tree_machine.specs.Flat.{all_front, behind_code, front_code, graph_code, part_codes, parts_code};
 ghost use Rattle.tree_machine.specs.Naming.{code_by};
 ghost use Rattle.tree_machine.specs.Parts.{Parts as Contents, part_at, parts_graph, parts_held};
@@ -19,7 +18,7 @@ use crate::naming::Naming;
 use crate::number::sum_of;
 use crate::numbering::CELLS_BELOW;
 use crate::output::Output;
-use crate::parts::Parts;
+use crate::parts::{Parts, Visit};
 use sched_program::OutOfMemory;
 use std::alloc::Global;
 
@@ -32,71 +31,73 @@ fn least(some: usize, more: usize) -> usize
 }
 
 /// Visits all nodes, in the order of their numbers.
-fn visit_nodes<P: Parts>(parts: &P, coder: &mut Coder) -> Result<(), OutOfMemory>
+fn visit_nodes<P: Parts>(parts: &P, coder: &mut Coder, out: &mut Output) -> Visit
     requires in_range { (fixed : ℕ) × ArePartsInRange fixed (P.parts parts.now) }
     requires nodes { length (P.parts parts.now).nodes ≤ coder.old.nodes_below }
     requires records { length (P.parts parts.now).records ≤ coder.old.records_below }
-    ensures { OnOk result (coder.new ≡ with_parts coder.old (P.parts parts.now).nodes) }
+    ensures coder { OnOk result (coder.new ≡ with_parts coder.old (P.parts parts.now).nodes) }
+    ensures written { OnOk result (out.new ≡ out.old ++ coded_parts coder.old (P.parts parts.now).nodes) }
 {
     for index in 0..parts.node_count() {
-        parts.visit_node(index, coder)?;
+        parts.visit_node(index, coder, out)?;
     }
     Ok(())
 }
 
 /// Visits all records, in the order of their numbers.
-fn visit_records<P: Parts>(parts: &P, coder: &mut Coder) -> Result<(), OutOfMemory>
+fn visit_records<P: Parts>(parts: &P, coder: &mut Coder, out: &mut Output) -> Visit
     requires in_range { (fixed : ℕ) × ArePartsInRange fixed (P.parts parts.now) }
     requires nodes { length (P.parts parts.now).nodes ≤ coder.old.nodes_below }
     requires records { length (P.parts parts.now).records ≤ coder.old.records_below }
-    ensures { OnOk result (coder.new ≡ with_parts coder.old (P.parts parts.now).records) }
+    ensures coder { OnOk result (coder.new ≡ with_parts coder.old (P.parts parts.now).records) }
+    ensures written { OnOk result (out.new ≡ out.old ++ coded_parts coder.old (P.parts parts.now).records) }
 {
     for index in 0..parts.record_count() {
-        parts.visit_record(index, coder)?;
+        parts.visit_record(index, coder, out)?;
     }
     Ok(())
 }
 
 /// Visits what each thread holds, in the order of the threads.
 #[inline(always)]
-fn visit_all_held<P: Parts>(parts: &P, coder: &mut Coder) -> Result<(), OutOfMemory>
+fn visit_all_held<P: Parts>(parts: &P, coder: &mut Coder, out: &mut Output) -> Visit
     requires in_range { (fixed : ℕ) × ArePartsInRange fixed (P.parts parts.now) }
     requires nodes { length (P.parts parts.now).nodes ≤ coder.old.nodes_below }
     requires records { length (P.parts parts.now).records ≤ coder.old.records_below }
-    ensures { OnOk result (coder.new ≡ with_parts coder.old (P.parts parts.now).held) }
+    ensures coder { OnOk result (coder.new ≡ with_parts coder.old (P.parts parts.now).held) }
+    ensures written { OnOk result (out.new ≡ out.old ++ coded_parts coder.old (P.parts parts.now).held) }
 {
     for index in 0..parts.held_count() {
-        parts.visit_held(index, coder)?;
+        parts.visit_held(index, coder, out)?;
     }
     Ok(())
 }
 
-/// Visits the node or the record with this number as a cell: records come behind the nodes. A record is written apart.
+/// Visits the node or the record with this number as a cell: records come behind the nodes, and are written apart.
 #[inline(always)]
 fn visit_cell<P: Parts>(
     parts: &P,
     cell: usize,
     coder: &mut Coder,
+    out: &mut Output,
     records: &mut Output,
-) -> Result<(), OutOfMemory>
+) -> Visit
     requires in_range { (fixed : ℕ) × ArePartsInRange fixed (P.parts parts.now) }
     requires nodes { length (P.parts parts.now).nodes ≡ coder.old.nodes_below }
     requires records { length (P.parts parts.now).records ≡ coder.old.records_below }
     ensures node { OnOk result (cell < coder.old.nodes_below
-        → (coder.new ≡ with_part coder.old (part_at (P.parts parts.now).nodes cell)) × (records.new ≡ records.old)) }
+        → IsVisited (part_at (P.parts parts.now).nodes cell) coder.old out.old coder.new out.new
+        × (records.new ≡ records.old)) }
     ensures record { OnOk result (coder.old.nodes_below ≤ cell
-        → (coder.new ≡ with_names coder.old (part_at (P.parts parts.now).records (cell - coder.old.nodes_below)))
-        × (records.new ≡ records.old
-        ++ coded_by coder.new (part_at (P.parts parts.now).records (cell - coder.old.nodes_below)))) }
+        → IsVisited (part_at (P.parts parts.now).records (cell - coder.old.nodes_below)) coder.old records.old
+        coder.new records.new × (out.new ≡ out.old)) }
 {
     let nodes = parts.node_count();
     if cell < nodes {
-        return parts.visit_node(cell, coder);
+        parts.visit_node(cell, coder, out)
+    } else {
+        parts.visit_record(cell - nodes, coder, records)
     }
-    coder.exchange(records);
-    parts.visit_record(cell - nodes, coder)?;
-    coder.exchange(records);
-    Ok(())
 }
 
 /// Visits the cells in the queue, in their order, and those that go into it meanwhile. Records are written apart. The
@@ -105,15 +106,16 @@ fn visit_cell<P: Parts>(
 fn visit_queue<P: Parts>(
     parts: &P,
     coder: &mut Coder,
+    out: &mut Output,
     records: &mut Output,
-) -> Result<(), OutOfMemory>
+) -> Visit
     ghost walk: { List ℕ × List ℕ }
     requires in_range { (fixed : ℕ) × ArePartsInRange fixed (P.parts parts.now) }
     requires rooted { IsRooted (parts_graph (P.parts parts.now) ++ parts_held (P.parts parts.now)) walk.0 }
     requires begun { IsWalk (P.parts parts.now) walk.0 walk.1 (length walk.1) coder.old }
     ensures walked { OnOk result (IsWalk (P.parts parts.now) walk.0 walk.1
         (length (parts_graph (P.parts parts.now) ++ parts_held (P.parts parts.now))) coder.new) }
-    ensures nodes { OnOk result (coder.new.bytes ≡ coder.old.bytes
+    ensures nodes { OnOk result (out.new ≡ out.old
         ++ part_codes (nodes_by coder.new (P.parts parts.now) coder.new.queue)) }
     ensures records { OnOk result (records.new ≡ records.old
         ++ part_codes (records_by coder.new (P.parts parts.now) coder.new.queue)) }
@@ -125,7 +127,7 @@ fn visit_queue<P: Parts>(
     }
     for place in 0..cells {
         match coder.cell_at(place) {
-            Some(cell) => visit_cell(parts, cell, coder, records)?,
+            Some(cell) => visit_cell(parts, cell, coder, out, records)?,
             None => break,
         }
     }
@@ -145,8 +147,9 @@ fn visit_graph<P: Parts>(
     parts: &P,
     first: Counts,
     coder: &mut Coder,
+    out: &mut Output,
     records: &mut Output,
-) -> Result<(), OutOfMemory>
+) -> Visit
     ghost walk: { List ℕ × List ℕ }
     requires in_range { (fixed : ℕ) × ArePartsInRange fixed (P.parts parts.now) }
     requires rooted { IsRooted (parts_graph (P.parts parts.now) ++ parts_held (P.parts parts.now)) walk.0 }
@@ -155,17 +158,17 @@ fn visit_graph<P: Parts>(
     requires records { first.records ≡ length (records_met coder.old.nodes_below coder.old.records_below walk.1) }
     ensures walked { OnOk result (IsWalk (P.parts parts.now) walk.0 walk.1
         (length (parts_graph (P.parts parts.now) ++ parts_held (P.parts parts.now))) coder.new) }
-    ensures written { OnOk result (coder.new.bytes ≡ coder.old.bytes
+    ensures written { OnOk result (out.new ≡ out.old
         ++ graph_code (nodes_by coder.new (P.parts parts.now) coder.new.queue)
         (records_by coder.new (P.parts parts.now) coder.new.queue)) }
 {
-    let place = coder.put_counts(0, 0)?;
+    let place = out.put_counts(0, 0)?;
     records.clear();
-    visit_queue(parts, coder, records)?;
+    visit_queue(parts, coder, out, records)?;
     let nodes = coder.node_count() - first.nodes;
     let others = coder.record_count() - first.records;
-    coder.set_counts(place, nodes as u8, others as u8);
-    coder.put_all(records)
+    out.set_counts(place, nodes as u8, others as u8);
+    out.put(records.as_slice())
 }
 
 /// Writes what comes behind the front: what the threads hold, and what only that leads to, if there is such.
@@ -174,14 +177,15 @@ fn visit_behind<P: Parts>(
     parts: &P,
     fixed: usize,
     coder: &mut Coder,
+    out: &mut Output,
     records: &mut Output,
-) -> Result<(), OutOfMemory>
+) -> Visit
     requires in_range { ArePartsInRange fixed (P.parts parts.now) }
     requires nodes_below { length (P.parts parts.now).nodes ≡ coder.old.nodes_below }
     requires records_below { length (P.parts parts.now).records ≡ coder.old.records_below }
     requires nodes { coder.old.nodes ≡ front_nodes fixed (P.parts parts.now) }
     requires records { coder.old.records ≡ front_records fixed (P.parts parts.now) }
-    ensures { OnOk result (coder.new.bytes ≡ coder.old.bytes
+    ensures { OnOk result (out.new ≡ out.old
         ++ behind_code (canonical_front fixed (P.parts parts.now)) (canonical_parts fixed (P.parts parts.now))) }
 {
     // Only the contract speaks of it.
@@ -191,27 +195,40 @@ fn visit_behind<P: Parts>(
         records: coder.record_count(),
     };
     coder.clear_queue();
-    visit_all_held(parts, coder)?;
+    visit_all_held(parts, coder, out)?;
     if coder.node_count() == first.nodes && coder.record_count() == first.records {
         return Ok(());
     }
-    visit_graph(parts, first, coder, records)
+    visit_graph(parts, first, coder, out, records)
+}
+
+/// Writes what each thread holds by the own numbers of nodes and records.
+#[inline(always)]
+fn visit_own_held<P: Parts>(parts: &P, coder: &mut Coder, out: &mut Output) -> Visit
+    requires in_range { (fixed : ℕ) × ArePartsInRange fixed (P.parts parts.now) }
+    requires own { IsOwn (length (P.parts parts.now).nodes) (length (P.parts parts.now).records) coder.old }
+    ensures coder { OnOk result (coder.new ≡ coder.old) }
+    ensures written { OnOk result (out.new ≡ out.old ++ part_codes (P.parts parts.now).held) }
+{
+    visit_all_held(parts, coder, out)
 }
 
 /// Writes the code of nodes, records and what the threads hold by their own numbers: all nodes and records come in
 /// front.
 #[inline(always)]
-fn visit_own<P: Parts>(parts: &P, coder: &mut Coder) -> Result<(), OutOfMemory>
+fn visit_own<P: Parts>(parts: &P, coder: &mut Coder, out: &mut Output) -> Visit
     requires in_range { (fixed : ℕ) × ArePartsInRange fixed (P.parts parts.now) }
     requires own { IsOwn (length (P.parts parts.now).nodes) (length (P.parts parts.now).records) coder.old }
-    ensures { OnOk result (coder.new ≡ record coder.old {
-      bytes = coder.old.bytes ++ parts_code (all_front (P.parts parts.now)) (P.parts parts.now);
-    }) }
+    ensures coder { OnOk result (coder.new ≡ coder.old) }
+    ensures written { OnOk result (out.new ≡ out.old
+        ++ parts_code (all_front (P.parts parts.now)) (P.parts parts.now)) }
 {
-    let _place = coder.put_counts(parts.node_count(), parts.record_count())?;
-    visit_nodes(parts, coder)?;
-    visit_records(parts, coder)?;
-    visit_all_held(parts, coder)
+    // No more have numbers than bytes can name.
+    let _ = coder.bounds();
+    let _place = out.put_counts(parts.node_count() as u8, parts.record_count() as u8)?;
+    visit_nodes(parts, coder, out)?;
+    visit_records(parts, coder, out)?;
+    visit_own_held(parts, coder, out)
 }
 
 /// Appends that code.
@@ -227,17 +244,11 @@ fn write_own<P: Parts>(parts: &P, buffer: &mut EncodeBuffer) -> Result<(), OutOf
 {
     let coder = &mut buffer.own;
     coder.number_all(parts.node_count(), parts.record_count())?;
-    coder.exchange(&mut buffer.out);
-    match visit_own(parts, coder) {
-        Ok(()) => {
-            coder.exchange(&mut buffer.out);
-            Ok(())
-        }
-        Err(refused) => {
-            coder.clear();
-            Err(refused)
-        }
+    let written = visit_own(parts, coder, &mut buffer.out);
+    if written.is_err() {
+        coder.clear();
     }
+    written
 }
 
 /// Appends what comes behind the nodes and the records in that code: what the threads hold.
@@ -251,17 +262,11 @@ fn write_own_held<P: Parts>(parts: &P, buffer: &mut EncodeBuffer) -> Result<(), 
 {
     let coder = &mut buffer.own;
     coder.number_all(parts.node_count(), parts.record_count())?;
-    coder.exchange(&mut buffer.out);
-    match visit_all_held(parts, coder) {
-        Ok(()) => {
-            coder.exchange(&mut buffer.out);
-            Ok(())
-        }
-        Err(refused) => {
-            coder.clear();
-            Err(refused)
-        }
+    let written = visit_own_held(parts, coder, &mut buffer.out);
+    if written.is_err() {
+        coder.clear();
     }
+    written
 }
 
 /// Appends the canonical code of nodes, records and what the threads hold. In front comes what the first `fixed` nodes
@@ -281,16 +286,13 @@ fn write_canonical<P: Parts>(
 {
     let coder = &mut buffer.canonical;
     coder.restart(fixed, 0, parts.node_count(), parts.record_count())?;
-    coder.exchange(&mut buffer.out);
     coder.enqueue_first(fixed)?;
     let none = Counts {
         nodes: 0,
         records: 0,
     };
-    visit_graph(parts, none, coder, &mut buffer.records)?;
-    visit_behind(parts, fixed, coder, &mut buffer.records)?;
-    coder.exchange(&mut buffer.out);
-    Ok(())
+    visit_graph(parts, none, coder, &mut buffer.out, &mut buffer.records)?;
+    visit_behind(parts, fixed, coder, &mut buffer.out, &mut buffer.records)
 }
 
 /// Appends what comes behind the front of that code. The front is that of the parts themselves, by their own numbers.
@@ -316,10 +318,7 @@ fn write_canonical_behind<P: Parts>(
     }
     let coder = &mut buffer.canonical;
     coder.restart(front_nodes, front_records, nodes, records)?;
-    coder.exchange(&mut buffer.out);
-    visit_behind(parts, fixed, coder, &mut buffer.records)?;
-    coder.exchange(&mut buffer.out);
-    Ok(())
+    visit_behind(parts, fixed, coder, &mut buffer.out, &mut buffer.records)
 }
 
 /// Appends the code of nodes, records and what the threads hold, by own numbers or canonical. In the canonical code the

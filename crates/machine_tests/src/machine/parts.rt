@@ -1,14 +1,16 @@
 //! Nodes and records as bytes.
 ghost use Rattle.std.specs.Prelude.{◌≡◌, ◌<◌, IsTrue, IfSome, OnOk};
 ghost use Rattle.std.specs.List.{All};
-ghost use Rattle.tree_machine.specs.Coding.{with_part};
+ghost use Rattle.tree_machine.specs.Coding.{IsVisited};
 ghost use Rattle.tree_machine.specs.Parts.{IsPartBelow, ArePartsInRange};
 
 use crate::machine::ranges::{are_all_below, are_named_below};
 use sched_program::OutOfMemory;
 use std::alloc::Global;
 use std::marker::Model;
-use tree_machine::{Bytes, Coder, EncodeBuffer, Naming, Parts, form_parts, write_parts};
+use tree_machine::{
+    Bytes, Coder, EncodeBuffer, Naming, Output, Parts, Visit, form_parts, write_parts,
+};
 
 /// A part that is there already. The records of the stack come behind the other ones.
 #[derive(Drop)]
@@ -48,11 +50,11 @@ pub fn row_of(
 
 impl Row {
     /// Lets a coder visit it.
-    fn show(&self, coder: &mut Coder) -> Result<(), OutOfMemory>
+    fn show(&self, coder: &mut Coder, out: &mut Output) -> Visit
         requires { IsPartBelow coder.old.nodes_below coder.old.records_below self.now }
-        ensures { OnOk result (coder.new ≡ with_part coder.old self.now) }
+        ensures { OnOk result (IsVisited self.now coder.old out.old coder.new out.new) }
     {
-        coder.visit(self.facts, self.nodes, self.records, self.stack)
+        coder.visit(out, self.facts, self.nodes, self.records, self.stack)
     }
 
     /// Whether it names nodes and records below these bounds.
@@ -90,19 +92,19 @@ impl Parts for Tables<'_> {
         self.held.len()
     }
 
-    fn visit_node(&self, index: usize, coder: &mut Coder) -> Result<(), OutOfMemory> {
-        self.nodes[index].show(coder)
+    fn visit_node(&self, index: usize, coder: &mut Coder, out: &mut Output) -> Visit {
+        self.nodes[index].show(coder, out)
     }
 
-    fn visit_record(&self, index: usize, coder: &mut Coder) -> Result<(), OutOfMemory> {
+    fn visit_record(&self, index: usize, coder: &mut Coder, out: &mut Output) -> Visit {
         match self.records.get(index) {
-            Some(row) => row.show(coder),
-            None => coder.visit(&[], &[], &[], &[]),
+            Some(row) => row.show(coder, out),
+            None => coder.visit(out, &[], &[], &[], &[]),
         }
     }
 
-    fn visit_held(&self, index: usize, coder: &mut Coder) -> Result<(), OutOfMemory> {
-        self.held[index].show(coder)
+    fn visit_held(&self, index: usize, coder: &mut Coder, out: &mut Output) -> Visit {
+        self.held[index].show(coder, out)
     }
 }
 

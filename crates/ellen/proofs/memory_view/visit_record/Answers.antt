@@ -1,7 +1,7 @@
 -- The coder visits the record's part.
-use Rattle.std.proofs.Common.{◌≡◌, ℕ, [], ◌∷◌, OnOk, ap, sym, ◌∙◌, subst}
+use Rattle.std.proofs.Common.{ℕ, [], ◌∷◌, OnOk, ap, sym, ◌∙◌, subst}
 use Rattle.std.specs.Prelude.{Option, Some}
-use Rattle.tree_machine.specs.Coding.{with_part}
+use Rattle.tree_machine.specs.Coding.{IsVisited}
 use Rattle.tree_machine.specs.Parts.{Part}
 use Rattle.ellen.specs.Parts.{record_part}
 use Rattle.ellen.proofs.memory_view.visit_record.Goals as goal
@@ -15,5 +15,6 @@ returns-in-Del c =
       nodes = Some d.grandparent ∷ Some d.parent ∷ Some d.leaf ∷ [];
       records = word.1 ∷ [];
     } in
-    subst (λ p. OnOk c.visit-in-Del.result (c.visit-in-Del.new.self ≡ with_part c.args.coder.now p))
+    subst (λ p. OnOk c.visit-in-Del.result
+    (IsVisited p c.args.coder.now c.args.out.now c.visit-in-Del.new.self c.visit-in-Del.new.out))
     (ap part c.word_parts-kind.ensures.parts ∙ ap record_part (sym c.in-Del.is)) c.visit-in-Del.ensures

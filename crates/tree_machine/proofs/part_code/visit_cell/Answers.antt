@@ -1,4 +1,4 @@
-use Rattle.std.proofs.Common.{sym, refl}
+use Rattle.std.proofs.Common.{sym}
 use Rattle.tree_machine.proofs.VisitedParts.{part_below}
 use Rattle.tree_machine.proofs.part_code.visit_cell.Goals as goal
 
@@ -9,11 +9,5 @@ visit_node-requires-clause-named g c =
 
 pub visit_record-requires : goal.visit_record-requires
 visit_record-requires g c =
-    rw c.exchange.ensures.bytes
-    (part_below (g.P.Parts.parts c.args.parts.now).records _ (sym c.requires.nodes) (sym c.requires.records)
-    c.requires.in_range.1.records)
-
-pub returns-clause-record : goal.returns-clause-record
-returns-clause-record g c _ =
-    rw (c.exchange-2.ensures.other, c.exchange-2.ensures.bytes, c.in_ok-visit_record.ensures)
-    (rw (c.exchange.ensures.other, c.exchange.ensures.bytes, c.node_count-nodes.ensures, c.requires.nodes) (refl, refl))
+    part_below (g.P.Parts.parts c.args.parts.now).records _ (sym c.requires.nodes) (sym c.requires.records)
+    c.requires.in_range.1.records

@@ -18,7 +18,8 @@ visit_cell-requires-clause-records g c = sym c.loop-place.invariant.walk.records
 pub loop-place-preserved : goal.loop-place-preserved
 loop-place-preserved g c =
     trail_next c.loop-place.invariant c.requires.1.0.1 (sym c.in-Some.ensures) c.visit_cell.new.coder
-    c.visit_cell.new.records c.in_ok-visit_cell-in-Some.ensures.node c.in_ok-visit_cell-in-Some.ensures.record
+    c.visit_cell.new.out c.visit_cell.new.records c.in_ok-visit_cell-in-Some.ensures.node
+    c.in_ok-visit_cell-in-Some.ensures.record
 
 pub returns-after-loop-place : goal.returns-after-loop-place
 returns-after-loop-place g c =

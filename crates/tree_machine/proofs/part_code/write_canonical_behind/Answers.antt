@@ -1,6 +1,7 @@
 use Rattle.std.proofs.Common.{◌≡◌, ℕ, ◌≤◌, ◌++◌, ◌⊎◌, ◌∙◌, List, ap, arith, length, take}
 use Rattle.std.proofs.lemmas.List.{length-take}
-use Rattle.tree_machine.specs.Canonical.{canonical_parts, cut_front}
+use Rattle.std.proofs.lemmas.Result.{on_ok_weaker}
+use Rattle.tree_machine.specs.Canonical.{canonical_front, canonical_parts, cut_front}
 use Rattle.tree_machine.specs.Flat.{behind_code}
 use Rattle.tree_machine.specs.Parts.{Part}
 use Rattle.tree_machine.specs.Laws.Fronts.{behind_all, front_is}
@@ -24,18 +25,20 @@ pub visit_behind-requires-clause-nodes : goal.visit_behind-requires-clause-nodes
 visit_behind-requires-clause-nodes g c =
     let most = c.least-front_nodes.ensures in
     let same = taken _ most.at_most most.one c.from.ensures c.node_count-nodes.ensures in
-    rw (c.exchange.ensures.bytes, c.in_ok-restart.ensures.begun, c.requires.met.nodes, same)
+    rw (c.in_ok-restart.ensures, c.requires.met.nodes, same)
 
 pub visit_behind-requires-clause-records : goal.visit_behind-requires-clause-records
 visit_behind-requires-clause-records g c =
     let most = c.least-front_records.ensures in
     let same = taken _ most.at_most most.one c.from-2.ensures c.record_count-records.ensures in
-    rw (c.exchange.ensures.bytes, c.in_ok-restart.ensures.begun, c.requires.met.records, same)
+    rw (c.in_ok-restart.ensures, c.requires.met.records, same)
 
 pub returns : goal.returns
 returns g c =
     let s = g.P.Parts.parts c.args.parts.now in
-    c.exchange-2.ensures.other
-    ∙ (rw (c.exchange.ensures.bytes, c.buffer.view_is) at c.in_ok-visit_behind.ensures)
+    on_ok_weaker c.visit_behind.result
+    (λ behind. behind
+    ∙ ap (λ l. l ++ behind_code (canonical_front c.args.fixed s) (canonical_parts c.args.fixed s)) c.buffer.view_is
     ∙ ap (λ f. c.args.buffer.now ++ behind_code f (canonical_parts c.args.fixed s))
-    (front_is c.args.fixed (cut_front c.args.front s) s c.requires.in_range c.requires.met)
+    (front_is c.args.fixed (cut_front c.args.front s) s c.requires.in_range c.requires.met))
+    c.visit_behind.ensures

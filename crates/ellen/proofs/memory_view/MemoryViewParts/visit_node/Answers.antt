@@ -1,6 +1,6 @@
 use Rattle.std.proofs.Common.{◌≡◌, ℕ, zero, suc, ◌<◌, List, [], ◌∷◌, length, map, get_or, refl, ap, sym, ◌∙◌, subst}
 use Rattle.std.proofs.Common.{OnOk, arith}
-use Rattle.tree_machine.specs.Coding.{with_part}
+use Rattle.tree_machine.specs.Coding.{IsVisited}
 use Rattle.tree_machine.specs.Parts.{IsPartBelow, part_at}
 use Rattle.ellen.specs.declared.memory.Node.{Node}
 use Rattle.ellen.specs.declared.memory.Node.TheVariants.{Leaf}
@@ -26,6 +26,7 @@ visit_node-requires c =
 
 pub returns : goal.returns
 returns c =
-    subst (λ p. OnOk c.visit_node.result (c.visit_node.new.coder ≡ with_part c.args.coder.now p))
+    subst (λ p. OnOk c.visit_node.result
+    (IsVisited p c.args.coder.now c.args.out.now c.visit_node.new.coder c.visit_node.new.out))
     (part_is c.args.self.now.memory.now.nodes c.as_slice.result.now c.args.index c.as_slice.ensures c.requires.in_range)
     c.visit_node.ensures

@@ -2,7 +2,7 @@ use Rattle.std.proofs.Common.{◌≡◌, ℕ, List, map, slice_get, ap, sym, ◌
 use Rattle.std.proofs.lemmas.Option.{slice_get-map}
 use Rattle.std.specs.Prelude.{Option, unwrap_or}
 use Rattle.std.specs.Option.{option_copied, option_map}
-use Rattle.tree_machine.specs.Coding.{with_part}
+use Rattle.tree_machine.specs.Coding.{IsVisited}
 use Rattle.tree_machine.specs.Parts.{IsPartBelow, no_part, part_at}
 use Rattle.ellen.specs.declared.memory.Record.{Record}
 use Rattle.ellen.specs.Parts.{record_part}
@@ -22,12 +22,13 @@ visit_record-requires c =
 
 pub returns-in-Some : goal.returns-in-Some
 returns-in-Some c =
-    subst (λ p. OnOk c.visit_record.result (c.visit_record.new.coder ≡ with_part c.args.coder.now p))
+    subst (λ p. OnOk c.visit_record.result
+    (IsVisited p c.args.coder.now c.args.out.now c.visit_record.new.coder c.visit_record.new.out))
     (part_is c.args.self.now.memory.now.records c.args.index _ (sym (ap option_copied c.in-Some.is) ∙ c.get.ensures))
     c.visit_record.ensures
 
 pub returns-in-None : goal.returns-in-None
 returns-in-None c =
-    subst (λ p. OnOk c.visit.result (c.visit.new.self ≡ with_part c.args.coder.now p))
+    subst (λ p. OnOk c.visit.result (IsVisited p c.args.coder.now c.args.out.now c.visit.new.self c.visit.new.out))
     (part_is c.args.self.now.memory.now.records c.args.index _ (sym (ap option_copied c.in-None.is) ∙ c.get.ensures))
     c.visit.ensures

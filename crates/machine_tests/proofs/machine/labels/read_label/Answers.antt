@@ -1,9 +1,9 @@
 -- What is read from the label of a state that fits the program fits it too.
 use Rattle.std.proofs.Common.{◌≡◌, ℕ, List, sym, ◌∙◌, subst}
-use Rattle.std.specs.Prelude.{Option}
+
 use Rattle.std.proofs.lemmas.Option.{IfSome_then}
 use Rattle.sched_program.specs.Program.{Program}
-use Rattle.tree_machine.specs.FormCode.{cut_code, label_code, named_code, state_code}
+use Rattle.tree_machine.specs.FormCode.{cut_code, named_code, state_code}
 use Rattle.tree_machine.specs.Naming.{code_by}
 use Rattle.tree_machine.specs.Rules.{Rules}
 use Rattle.tree_machine.specs.Step.{Fits}
@@ -26,7 +26,7 @@ returns-clause-fits g c =
     let how = c.args.how.now in
     let rules = g.M.Machine.rules how.machine in
     let some = c.requires.labelled in
-    let twin = c.read_bytes.new.shell in
+    let twin = c.decode.new.self in
     IfSome_then c.in_ok-read.read c.in_ok-read.ensures (λ offsets cut.
     fits_too rules how.program.now some.0 twin how.naming
     (state_code (cut_code g.M.Encode.front_code g.M.Encode.behind_code offsets.front) twin)
