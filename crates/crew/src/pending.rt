@@ -2,9 +2,9 @@
 ghost use Rattle.std.specs.Prelude.{◌≡◌, [], All, OnOk};
 ghost use Rattle.book.specs.ByLabel.{IsOf};
 
-use crate::answer::Share;
 use crate::worker::Stop;
 use book::{Book, ExpandedEntry, Recycled};
+use reports::Share;
 use sched_program::Program;
 use std::alloc::Global;
 use tree_machine::Encode;

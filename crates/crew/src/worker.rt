@@ -2,9 +2,9 @@
 ghost use Rattle.std.specs.Prelude.{◌≡◌, All, IfOk, IfSome, length, vec_len};
 ghost use Rattle.claims.specs.Seats.{IsSeatOf};
 
-use crate::answer::Share;
 use book::EnterFault;
 use claims::{Claims, Seat};
+use reports::Share;
 use sched_program::OutOfMemory;
 use std::alloc::{AllocFailed, Global};
 

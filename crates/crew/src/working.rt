@@ -3,13 +3,13 @@ ghost use Rattle.std.specs.Prelude.{◌≡◌, All, IfSome, OnOk};
 ghost use Rattle.claims.specs.Seats.{IsSeatOf};
 ghost use Rattle.book.specs.ByLabel.{IsOf};
 
-use crate::answer::Share;
 use crate::gate::Gate;
 use crate::layer_run::{Exploration, LayerRun};
 use crate::pending::Pending;
 use crate::worker::{Stop, Worker};
 use book::{Scratch, TakenEntry};
 use claims::Seat;
+use reports::Share;
 use std::sync::Wait;
 use tree_machine::Encode;
 

@@ -11,9 +11,9 @@ use Rattle.replay.specs.Schedule.{StepMachine}
 use Rattle.replay.specs.declared.file.fault.CheckFault.{CheckFault}
 use Rattle.replay.specs.declared.file.fault.CheckFault.TheVariants as check_fault
 use Rattle.book.proofs.BookFile.Writable.{all_sound}
-use Rattle.crew.specs.Reading.{TellsClosed, TellsFirst}
-use Rattle.crew.specs.declared.answer.Answer.{Answer}
-use Rattle.crew.specs.declared.answer.Answer.TheVariants as answer
+use Rattle.reports.specs.Reading.{TellsClosed, TellsFirst}
+use Rattle.reports.specs.declared.answer.Answer.{Answer}
+use Rattle.reports.specs.declared.answer.Answer.TheVariants as answer
 use Rattle.treesched_lib.specs.Lines.{IsRefusal, check_fault_text}
 use Rattle.treesched_lib.specs.Serving.{IsChecked}
 use Rattle.treesched_lib.specs.declared.serving.Output.{Output}

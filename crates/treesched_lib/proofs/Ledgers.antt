@@ -5,8 +5,8 @@ use Rattle.std.proofs.Common.{append_assoc, append-nil}
 use Rattle.std.proofs.lemmas.List.{length-take-le, take_more}
 use Rattle.std.specs.Fmt.{decimal}
 use Rattle.book.specs.declared.book.Totals.{Totals}
-use Rattle.crew.specs.declared.answer.Answer.{Answer}
-use Rattle.crew.specs.declared.answer.Share.{Share}
+use Rattle.reports.specs.declared.answer.Answer.{Answer}
+use Rattle.reports.specs.declared.answer.Share.{Share}
 use Rattle.treesched_lib.specs.Lines.{IsPage, answer_text, counts_text, ledger_text, report_text, workers_text}
 use Rattle.treesched_lib.specs.declared.serving.Output.{Output}
 

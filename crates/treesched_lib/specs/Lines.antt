@@ -17,9 +17,9 @@ use Rattle.replay.specs.declared.finding.Finding.TheVariants as finding
 use Rattle.book.specs.declared.book.Totals.{Totals}
 use Rattle.replay.specs.declared.file.fault.CheckFault.{CheckFault}
 use Rattle.replay.specs.declared.file.fault.CheckFault.TheVariants as check_fault
-use Rattle.crew.specs.declared.answer.Answer.{Answer}
-use Rattle.crew.specs.declared.answer.Answer.TheVariants as answer
-use Rattle.crew.specs.declared.answer.Share.{Share}
+use Rattle.reports.specs.declared.answer.Answer.{Answer}
+use Rattle.reports.specs.declared.answer.Answer.TheVariants as answer
+use Rattle.reports.specs.declared.answer.Share.{Share}
 use Rattle.words.specs.declared.request.WordsFault.{WordsFault}
 use Rattle.words.specs.declared.request.WordsFault.TheVariants as words
 use Rattle.treesched_lib.specs.declared.serving.Output.{Output}

@@ -35,15 +35,15 @@ use Rattle.replay.specs.declared.file.fault.CheckFault.{CheckFault}
 use Rattle.replay.specs.declared.file.fault.CheckFault.TheVariants as check_fault
 use Rattle.replay.specs.declared.finding.Finding.{Finding}
 use Rattle.replay.specs.declared.replayed.ReplayFault.TheVariants as replay_fault
-use Rattle.crew.specs.Due.{IsDue}
-use Rattle.crew.specs.Headline.{IsTrueOf}
-use Rattle.crew.specs.Ledger.{ledger}
-use Rattle.crew.specs.Reading.{TellsClosed, TellsFirst}
-use Rattle.crew.specs.Reporting.{IsBookOf}
+use Rattle.reports.specs.Due.{IsDue}
+use Rattle.reports.specs.Headline.{IsTrueOf}
+use Rattle.reports.specs.Ledger.{ledger}
+use Rattle.reports.specs.Reading.{TellsClosed, TellsFirst}
+use Rattle.reports.specs.Reporting.{IsBookOf}
 use Rattle.options.specs.Settings.{Settings}
-use Rattle.crew.specs.declared.answer.Answer.{Answer}
-use Rattle.crew.specs.declared.answer.Answer.TheVariants as answer
-use Rattle.crew.specs.declared.answer.Share.{Share}
+use Rattle.reports.specs.declared.answer.Answer.{Answer}
+use Rattle.reports.specs.declared.answer.Answer.TheVariants as answer
+use Rattle.reports.specs.declared.answer.Share.{Share}
 use Rattle.treesched_lib.specs.Lines.{IsPage, IsRefusal, IsUnreadable, IsUnwritable, TellsFault, check_fault_text}
 use Rattle.treesched_lib.specs.Lines.{fault_text, no_step_text, operations_text, passed_text, report_text, status_of}
 use Rattle.treesched_lib.specs.Lines.{verdict_text}

@@ -1,7 +1,7 @@
 use Rattle.std.proofs.Common.{◌∙◌, ◌+◌, ◌++◌, List, ℕ, codes, get_or, arith, ap, append_assoc}
 use Rattle.std.specs.Fmt.{decimal}
 use Rattle.std.specs.String.{string_bytes}
-use Rattle.crew.specs.declared.answer.Share.{Share}
+use Rattle.reports.specs.declared.answer.Share.{Share}
 use Rattle.treesched_lib.specs.Lines.{counts_text}
 use Rattle.treesched_lib.proofs.Ledgers.{one_more_worker, worker_text}
 use Rattle.treesched_lib.proofs.lines.put_workers.Goals as goal

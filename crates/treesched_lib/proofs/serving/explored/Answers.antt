@@ -3,7 +3,7 @@ use Rattle.std.proofs.lemmas.Result.{IfOk-weaker}
 use Rattle.book.specs.Books.{CountsAsOne}
 use Rattle.replay.specs.Findings.{machine_of, IsFindingOf}
 use Rattle.book.specs.Law.{IsLawfulBook}
-use Rattle.crew.proofs.Ends.{given_merge}
+use Rattle.reports.proofs.Ends.{given_merge}
 use Rattle.treesched_lib.proofs.Given.{closed}
 use Rattle.treesched_lib.proofs.serving.explored.Goals as goal
 

@@ -1,0 +1,117 @@
+-- Which answer is due, by what the book shows.
+use Rattle.std.proofs.Common.{◌≡◌, ℕ, ◌+◌, ◌<◌, ◌≤◌, inl, inr, Bool, true, Some, None, List, length, refl, arith}
+use Rattle.std.proofs.lemmas.Bool.{cases_lt}
+use Rattle.std.specs.Global.{Vec}
+use Rattle.book.specs.declared.successor.Successor.{Successor}
+use Rattle.replay.specs.declared.finding.Finding.{Finding}
+use Rattle.replay.specs.Schedule.{AreOneBy, StepMachine, after}
+use Rattle.book.specs.Entries.{Entry, Contents, At, states}
+use Rattle.book.specs.Unknown.{unknown}
+use Rattle.book.specs.declared.entry.Mark.TheVariants.{Taken}
+use Rattle.book.specs.Law.{IsExpansion}
+use Rattle.book.specs.Layers.{IsExpandedBelow}
+use Rattle.book.specs.Counts.{IsCount}
+use Rattle.replay.specs.Findings.{is_sound}
+use Rattle.options.specs.declared.options.Merge.{Merge}
+use Rattle.reports.specs.declared.answer.Answer.TheVariants as answer
+use Rattle.reports.specs.Due.{IsAbove, IsDue, IsFirstAbove}
+use Rattle.reports.specs.Faults.{LeadsToFault, IsLeastFault}
+use Rattle.reports.specs.Reading.{first_fault, IsLastLayer}
+use Rattle.reports.proofs.Soundness.{IsJudged, SoundTo, fault_longer, is_fault, mark_cases, none_unsound, shorter_sound}
+use Rattle.reports.proofs.Soundness.{sound_to}
+use Rattle.reports.proofs.Growing.{not_above, count_all, more_than}
+use Rattle.reports.proofs.Reaching.{above_more, more_above}
+
+module _ {X S : Type 0} {m : StepMachine S} {same : S → S → Bool} {right : S → Finding → Type 0} {b : Contents X S}
+    (judged : IsJudged m same right b) where
+  -- where every state of at most n steps is sound, no shortest fault is within n steps
+  sound_no_fault : (n : ℕ) → SoundTo m right n → (F : ℕ) → IsLeastFault m right F → n < F
+  sound_no_fault n sound F least =
+      omega (arith, fault_longer judged n sound least.schedule least.faulty, least.long)
+
+  none_above : {n : ℕ} → IsExpandedBelow m.steps b.entries n → (j : ℕ) → j ≤ n → IsAbove m (AreOneBy same) b.limit j → ⊥
+  none_above done j le above =
+      not_above judged.machine judged.merges judged.book.law done judged.book.within j le (above_more above)
+
+  -- in a book with no fault, every state of the steps of its last layer is sound
+  pub holds_sound : (n : ℕ) → first_fault b.entries ≡ None → IsLastLayer m.steps b.entries n → SoundTo m right n
+  holds_sound n none last = sound_to judged n last.0 (λ i e at _. none_unsound b.entries none i e at)
+
+  -- so no fault is due, nor a stop
+  pub holds_due : (n : ℕ) → first_fault b.entries ≡ None → IsLastLayer m.steps b.entries n
+      → ((F : ℕ) → IsLeastFault m right F → n < F) × ((J : ℕ) → IsFirstAbove m (AreOneBy same) n b.limit J → ⊥)
+      × IsCount m (AreOneBy same) n (length b.entries)
+  holds_due n none last = (
+    sound_no_fault n (holds_sound n none last),
+    (λ J above. none_above last.0 J above.within above.above),
+    count_all judged.machine judged.merges judged.book.law n last.0 last.1,
+  )
+
+  module _ (i : ℕ) (first : first_fault b.entries ≡ Some i) (e : Entry S) (at : At b.entries i e)
+      (schedule : Vec ℕ) (leads : after m schedule.items ≡ Some e.state)
+      (long : length schedule.items ≡ m.steps e.state) where
+    -- the states of fewer steps than the first fault's are sound
+    pub fault_sound : (n : ℕ) → n < length schedule.items → SoundTo m right n
+    fault_sound n less = shorter_sound judged i first e at n (omega arith)
+
+    -- the first fault is due, if its layer is the last
+    pub fault_due : (merge : Merge) (n : ℕ) → length schedule.items ≤ n
+        → IsLastLayer m.steps b.entries (length schedule.items)
+        → IsDue m (AreOneBy same) right merge n b.limit (length b.entries) (answer.Fault e.finding schedule)
+    fault_due merge n within last = (
+      leads_to_fault,
+      record {
+        schedule = schedule.items;
+        long = refl;
+        faulty = (e.finding, leads_to_fault);
+        least = (λ d faulty. elim (cases_lt (length d) (length schedule.items)) [
+          | inl l ↦ absurd (omega (arith, fault_longer judged (length d) (fault_sound (length d) l) d faulty))
+          | inr le ↦ le
+        ]);
+      },
+      within,
+      (λ J above. elim (cases_lt (length schedule.items) J) [
+        | inl l ↦ l
+        | inr le ↦ absurd (none_above last.0 J le above.above)
+      ]),
+      count_all judged.machine judged.merges judged.book.law (length schedule.items) last.0 last.1,
+    )
+      where
+        leads_to_fault : LeadsToFault m right schedule.items e.finding
+        leads_to_fault = record {
+          state = e.state;
+          leads = leads;
+          found = judged.book.law.findings i e at;
+          fault = is_fault judged i first e at;
+        }
+
+  module _ (d i : ℕ) (e : Entry S) (at_i : At b.entries i e) (taken : e.mark ≡ Taken) (xs : List (Successor S))
+      (expansion : IsExpansion m right e.state xs)
+      (full : b.limit < length b.entries + length (unknown same (states b.entries) xs)) (layer : m.steps e.state ≡ d)
+      (sound : (j : ℕ) (f : Entry S) → At b.entries j f → m.steps f.state ≤ d → is_sound f.finding ≡ true) where
+    below_taken : IsExpandedBelow m.steps b.entries d
+    below_taken j f at less =
+        elim (mark_cases f.mark) [
+          | inl x ↦ x
+          | inr x ↦ absurd (omega (arith, judged.book.law.least i j e f at_i taken at x))
+        ]
+
+    -- the states of the steps of a layer that is cut are sound
+    pub stopped_sound : SoundTo m right d
+    stopped_sound = sound_to judged d below_taken sound
+
+    -- and the stop is due
+    pub stopped_due : (n : ℕ) → d < n → IsFirstAbove m (AreOneBy same) n b.limit (d + 1)
+        × ((F : ℕ) → IsLeastFault m right F → d + 1 ≤ F)
+    stopped_due n less = (
+      record {
+        within = omega arith;
+        above = more_above judged.machine judged.merges
+            (more_than judged.machine judged.merges judged.book.law i at_i taken expansion d (omega arith) full);
+        first = (λ j above. elim (cases_lt d j) [
+          | inl l ↦ omega arith
+          | inr le ↦ absurd (none_above below_taken j le above)
+        ]);
+      },
+      (λ F least. omega (arith, sound_no_fault d stopped_sound F least)),
+    )

@@ -1,0 +1,135 @@
+-- One more entry of a layer is taken, and its steps are entered.
+use Rattle.std.proofs.Common.{◌≡◌, ℕ, ◌+◌, ◌^◌, ◌<◌, ◌≤◌, inl, inr, Bool, List, length, sym, ap, ◌∙◌, arith}
+use Rattle.std.proofs.Common.{length-append}
+use Rattle.std.proofs.Math.ListN.{length-map}
+use Rattle.std.proofs.lemmas.Bool.{cases_lt}
+use Rattle.std.proofs.lemmas.List.Sums.{count_by-le-length}
+use Rattle.book.specs.declared.successor.Successor.{Successor}
+use Rattle.replay.specs.declared.finding.Finding.{Finding}
+use Rattle.book.specs.declared.entry.Mark.TheVariants.{Taken}
+use Rattle.replay.specs.Schedule.{AreOneBy, StepMachine, IsMachine, Merges}
+use Rattle.book.specs.Entries.{At, Entry, Contents, IsFullFor, Takes, is_expanded, states}
+use Rattle.book.specs.Unknown.{with_successors, unknown}
+use Rattle.book.specs.Law.{IsLawfulBook, IsExpansion}
+use Rattle.book.specs.Layers.{IsLeftTo}
+use Rattle.book.proofs.EntryLemmas.{length-with_mark, at-with_mark}
+use Rattle.book.proofs.LawfulBooks.{met_fits}
+use Rattle.book.proofs.Growth.{IsAdvance, advances, taken_grows, taken_is, taken_count, through_grows}
+use Rattle.reports.specs.declared.answer.Share.{Share}
+use Rattle.reports.specs.Driving.{IsInLayer, IsLedgerOf}
+use Rattle.reports.specs.Reading.{IsCutAt, IsFresh}
+use Rattle.reports.proofs.Growing.{not_expanded, fresh_entered, shallow_entered}
+
+-- while layer d of book b is expanded, its entry i is taken, which makes the book mid, and xs are its steps
+pub record IsTakenUp {X S : Type 0} (m : StepMachine S) (same : S → S → Bool) (right : S → Finding → Type 0)
+    (b mid : Contents X S) (i : ℕ) (xs : List (Successor S)) (d : ℕ) : Type 0 where
+  pub machine : IsMachine m
+  pub merges : Merges m same
+  pub law : IsLawfulBook m (AreOneBy same) right mid
+  pub state : S
+  pub takes : Takes m.steps b.entries mid.entries i state
+  pub expansion : IsExpansion m right state xs
+  pub layer : IsInLayer m.steps b.entries d
+  pub left : IsLeftTo m.steps b.entries d
+
+module _ {X S : Type 0} {m : StepMachine S} {same : S → S → Bool} {right : S → Finding → Type 0}
+    {b mid : Contents X S} {i : ℕ} {xs : List (Successor S)} {d : ℕ} (one : IsTakenUp m same right b mid i xs d) where
+  -- the entry that is taken
+  pub entry : (e : Entry S) × At mid.entries i e × (e.mark ≡ Taken) × (e.state ≡ one.state)
+  entry = taken_is m.steps b.entries mid.entries i one.state one.takes
+
+  expansion : IsExpansion m right entry.0.state xs
+  expansion = rw entry.3 one.expansion
+
+  same_length : length mid.entries ≡ length b.entries
+  same_length = rw one.takes.after (length-with_mark b.entries i Taken)
+
+  -- the share counts the book with the entry taken
+  pub ledger_taken : mid.met ≡ b.met → (share : Share) → IsLedgerOf b share → IsLedgerOf mid share
+  ledger_taken met share ledger = record {
+    expanded =
+        rw one.takes.after (omega (
+          arith,
+          ledger.expanded,
+          taken_count m b.entries i Taken one.takes.entry one.takes.next.entry (ap is_expanded one.takes.next.is_open),
+        ));
+    entered = ledger.entered ∙ sym same_length;
+    met = ledger.met ∙ sym met;
+  }
+
+  bounded : m.steps entry.0.state ≤ d
+  bounded =
+      let fewest = one.takes.next.fewest one.left.0 one.left.1 one.left.2 one.left.3 in
+      omega (arith, fewest, one.left.4, ap m.steps (entry.3 ∙ sym one.takes.state))
+
+  -- one more entry is expanded
+  pub advanced : (new : List (Entry S)) → new ≡ with_successors same mid.entries i xs → IsAdvance m.steps b.entries new
+  advanced new is =
+      advances m same right one.machine one.merges b.entries mid.entries new i one.state entry.0 xs one.takes
+      one.law.law entry.1 entry.2 expansion is one.layer.none_taken
+
+  fresh_taken : IsFresh m.steps mid.entries (d + 1)
+  fresh_taken j f there deep =
+      let o = at-with_mark b.entries i Taken j f (rw one.takes.after at there) in
+      elim o.3 [
+        | inl here ↦ not_expanded f.mark here.1
+        | inr other ↦ λ marked. one.layer.fresh j o.0 o.1 (rw o.2.state at deep) (cc (other.1, marked))
+      ]
+
+  -- and the layer is still the one in work
+  pub still_in_layer : (new : List (Entry S)) → new ≡ with_successors same mid.entries i xs → IsInLayer m.steps new d
+  still_in_layer new is =
+      let more = advanced new is in
+      record {
+        none_taken = more.none_taken;
+        through = through_grows m d b.entries new one.layer.through more.grows;
+        fresh = rw is (fresh_entered one.machine one.merges one.law.law i entry.1 entry.2 expansion d bounded
+            fresh_taken);
+        shallow = rw is (shallow_entered one.machine one.merges one.law.law i entry.1 entry.2 expansion d bounded);
+      }
+
+  -- where there is no room for the steps, the layer is cut there
+  pub layer_cut : (Same : S → S → Type 0) → IsFullFor Same mid xs → IsCutAt m Same right mid d i
+  layer_cut Same full = record {
+    no_room = record {
+      entry = entry.0;
+      at = entry.1;
+      taken = entry.2;
+      successors = xs;
+      expansion = expansion;
+      full = full;
+    };
+    layer = elim (cases_lt (m.steps entry.0.state) d) [
+      | inl l ↦ absurd (
+          let state = ap m.steps (entry.3 ∙ sym one.takes.state) in
+          let done =
+          one.layer.through.done i one.takes.entry one.takes.next.entry (omega (arith, state)) in
+          cc (done, one.takes.next.is_open))
+      | inr ge ↦ omega (arith, bounded)
+    ];
+    through = through_grows m d b.entries mid.entries one.layer.through
+        (rw one.takes.after (taken_grows m b.entries i one.takes.entry one.takes.next));
+  }
+
+  -- the share has room for the steps, and counts them
+  pub ledger_entered : {new : Contents X S} {entered : ℕ} (met : ℕ)
+      → new.entries ≡ with_successors same mid.entries i xs
+      → entered ≡ length (unknown same (states mid.entries) xs) → length mid.entries + entered ≤ mid.limit
+      → entered + met ≡ length xs → new.met ≡ mid.met + met → mid.met ≡ b.met
+      → (old share : Share) → IsLedgerOf b old
+      → (old.expanded + 1 < 2 ^ 64 → old.entered + entered < 2 ^ 64 → old.met + met < 2 ^ 64
+      → share ≡ record { expanded = old.expanded + 1; entered = old.entered + entered; met = old.met + met })
+      → IsLedgerOf new share
+  ledger_entered {new} {entered} met entries fresh room each met_in_all same_met old share ledger adds =
+      let few = count_by-le-length (λ (r : Entry S). is_expanded r.mark) b.entries in
+      let small =
+      met_fits m same right one.machine one.merges mid one.law i entry.0 entry.1 entry.2 xs expansion met (omega arith)
+      in
+      rw (adds (omega (arith, ledger.expanded, few, same_length, one.law.limit))
+      (omega (arith, ledger.entered, same_length, one.law.limit)) (omega (arith, ledger.met, small)))
+      (record {
+        expanded = omega (arith, ledger.expanded, (advanced new.entries entries).more);
+        entered = rw entries (simp (length-append, length-map, length-with_mark)
+            (omega (arith, ledger.entered, same_length)));
+        met = omega (arith, ledger.met);
+      })
