@@ -1,13 +1,6 @@
 //! The exploration by several workers, repeated on one thread where the book that they leave does
 //! not give the answer.
-ghost use Rattle.std.specs.Prelude.{◌≡◌, ℕ, IfOk, IfSome, length};
-ghost use Rattle.book.specs.Books.{totals_of, CountsAsOne};
-ghost use Rattle.replay.specs.Findings.{machine_of, IsFindingOf};
-ghost use Rattle.reports.specs.declared.answer.Answer.{Answer};
-ghost use Rattle.reports.specs.Due.{IsDue, IsSameVerdict};
-ghost use Rattle.reports.specs.Headline.{IsTrueOf};
-ghost use Rattle.reports.specs.Ledger.{ledger};
-ghost use Rattle.reports.specs.Reading.{TellsClosed, TellsFirst};
+ghost use Rattle.std.specs.Prelude.{◌≡◌, IfOk, IfSome, length};
 ghost use Rattle.reports.specs.Reporting.{IsReport};
 
 use crate::gate::Gate;
@@ -15,7 +8,7 @@ use crate::layer_run::Exploration;
 use crate::worker::{cut_of, shares_of, workers_of};
 use book::Book;
 use options::Options;
-use reports::{Report, Share, explore_alone, opened, report_of};
+use reports::{Report, Share, explore_alone, report_of};
 use sched_program::{OutOfMemory, Program};
 use std::alloc::Global;
 use std::sync::{Mutex, Wait};
@@ -50,7 +43,8 @@ fn explore_together<M: Encode, G: Gate, R: Threads + Wait + Sync>(
     ensures { IfOk result
         (λ o. IfSome o (λ r. IsReport M.rules machine program.now options r.answer r.totals r.shares.items r.book)) }
 {
-    let book = opened(alloc, machine, program, options)?;
+    let limit = options.limit() as usize;
+    let book = Book::open(alloc, machine, program.copy(alloc)?, limit, options.merge())?;
     let scratches = Mutex::new(Vec::new(alloc));
     let exploration = Exploration {
         rt,
@@ -85,27 +79,8 @@ pub fn explore<M: Encode, G: Gate, R: Threads + Wait + Sync>(
     options: Options,
     gate: &G,
 ) -> Result<Report<M>, OutOfMemory>
-    ensures due { IfOk result (λ r. IsDue (machine_of {Machine = M} {Form = M.Form} (M.rules machine) program.now)
-        (CountsAsOne (M.rules machine) options.merge)
-        (IsFindingOf (M.rules machine) program.now)
-        options.merge options.steps options.limit r.totals.entries r.answer) }
-    ensures only { IfOk result (λ r. (count : ℕ) (other : Answer)
-        → IsDue (machine_of {Machine = M} {Form = M.Form} (M.rules machine) program.now)
-        (CountsAsOne (M.rules machine) options.merge)
-        (IsFindingOf (M.rules machine) program.now)
-        options.merge options.steps options.limit count other
-        → IsSameVerdict r.totals.entries r.answer count other) }
-    ensures headline { IfOk result (λ r. IsTrueOf M M.Form (M.rules machine) program.now r.answer) }
-    ensures first { IfOk result (λ r. TellsFirst (machine_of (M.rules machine) program.now) r.book.entries r.answer) }
-    ensures closed { IfOk result (λ r. TellsClosed r.book r.answer) }
-    ensures machine { IfOk result (λ r. r.book.machine ≡ machine) }
-    ensures program { IfOk result (λ r. r.book.program ≡ program.now) }
-    ensures limit { IfOk result (λ r. r.book.limit ≡ options.limit) }
-    ensures merge { IfOk result (λ r. r.book.merge ≡ options.merge) }
-    ensures totals { IfOk result (λ r. r.totals ≡ totals_of r.book) }
-    ensures shares { IfOk result (λ r. length r.shares.items ≡ options.workers) }
-    ensures ledger { IfOk result (λ r. ledger r.shares.items
-        ≡ record { expanded = r.totals.expanded; entered = r.totals.entered; met = r.totals.met }) }
+    ensures { IfOk result
+        (λ r. IsReport M.rules machine program.now options r.answer r.totals r.shares.items r.book) }
 {
     match explore_together(rt, alloc, machine, program, options, gate)? {
         Some(report) => Ok(report),

@@ -16,10 +16,7 @@ use std::alloc::Global;
 use tree_machine::Encode;
 
 /// A book for these options, with the start alone.
-///
-/// # Errors
-/// `OutOfMemory` where a growth was refused.
-pub fn opened<M: Encode>(
+fn opened<M: Encode>(
     alloc: Global,
     machine: M,
     program: &Program,

@@ -9,6 +9,6 @@ mod driving;
 mod reading;
 mod reporting;
 
-pub use crate::alone::{explore_alone, opened};
+pub use crate::alone::explore_alone;
 pub use crate::answer::{Answer, Report, Share};
 pub use crate::reporting::report_of;

@@ -18,13 +18,13 @@ returns g c =
     given_merge
     (λ x p k. IsLawfulBook (machine_of {Machine = g.row.M.Denot} {Form = g.row.M-Form.Denot} (rules x) p)
     (CountsAsOne (rules x) k) (IsFindingOf (rules x) p) report.book)
-    report.book.machine c.args.machine report.book.program program report.book.merge asked.merge kept.machine
-    kept.program kept.merge c.law.ensures.law in
+    report.book.machine c.args.machine report.book.program program report.book.merge asked.merge kept.asked.machine
+    kept.asked.program kept.asked.merge c.law.ensures.law in
     IfOk-weaker c.report_output-output.result _ _
     (λ output printed. record {
       book = report.book;
       law = law;
-      asked = record { machine = refl; program = kept.program; limit = kept.limit; merge = kept.merge };
+      asked = record { machine = refl; program = kept.asked.program; limit = kept.asked.limit; merge = kept.asked.merge };
       answer = report.answer;
       due = rw kept.totals at kept.due;
       headline = kept.headline;
@@ -32,11 +32,11 @@ returns g c =
       closed = kept.closed;
       shares = report.shares.items;
       workers = kept.shares;
-      sums = rw kept.totals at kept.ledger;
+      sums = rw kept.totals at kept.sums;
       status = printed.0;
       out = rw kept.totals at printed.1;
       err = printed.2;
-      file = rw (sym kept.machine, sym kept.program) printed.3;
+      file = rw (sym kept.asked.machine, sym kept.asked.program) printed.3;
     })
     c.report_output-output.ensures
 
