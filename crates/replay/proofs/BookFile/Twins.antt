@@ -1,28 +1,52 @@
 -- States that stand in for those that lines tell: their steps are amiss, shown and labelled as those of these.
-use Rattle.std.proofs.Common.{◌≡◌, ℕ, inl, inr, Option, None, Some, List, ◌++◌, refl, sym, ap, ◌∙◌}
+use Rattle.std.proofs.Common.{◌≡◌, ℕ, inl, inr, Option, None, Some, List, [], ◌∷◌, ◌++◌, refl, sym, ap, ◌∙◌}
 use Rattle.std.proofs.Common.{arith, slice_get}
 use Rattle.sched_program.specs.Program.{Program, IsWithinLimits}
 use Rattle.sched_program.specs.declared.operation.OpId.{OpId}
 use Rattle.tree_machine.specs.Alike.{AreStatesAlike}
 use Rattle.tree_machine.specs.Flat.{number_code}
-use Rattle.tree_machine.specs.FormCode.{content_code}
+use Rattle.tree_machine.specs.FormCode.{content_code, cut_code, state_code}
 use Rattle.tree_machine.specs.InRange.{AreNumbersInRange}
+use Rattle.tree_machine.specs.Offsets.{AreOffsetsOf}
 use Rattle.tree_machine.specs.Rules.{Rules, AreLawful, AreFormsExact}
 use Rattle.tree_machine.specs.Step.{step, Fits}
+use Rattle.tree_machine.specs.declared.code_offsets.CodeOffsets.{CodeOffsets}
+use Rattle.tree_machine.specs.declared.front.Front.{Front}
 use Rattle.tree_machine.specs.declared.state.State.{State}
 use Rattle.tree_machine.proofs.Alike.{alike_step, alike_history, alike_ordered}
 use Rattle.tree_machine.proofs.Forms.{forms_alike, alike_itself, alike_turned, numbers_fit}
-use Rattle.tree_machine.proofs.Lists.{get-map}
+use Rattle.tree_machine.proofs.Lists.{get-append_left, get-map}
 use Rattle.tree_machine.proofs.States.{step_fits}
 use Rattle.replay.specs.declared.file.fault.CheckFault.{CheckFault}
 use Rattle.replay.specs.declared.file.line.BookLine.{BookLine}
-use Rattle.replay.specs.BookFile.Kept.{AreLabelsOf, StandsForEntry}
+use Rattle.replay.specs.declared.file.replayer.Source.{Source}
+use Rattle.replay.specs.BookFile.Kept.{AreLabelsOf, HasCode, IsSource, IsSourceAt, StandsForEntry}
 use Rattle.replay.specs.BookFile.Replays.{AreReplayed, IsShown, IsUnshown, IsWell}
 use Rattle.replay.specs.Findings.{machine_of}
 use Rattle.replay.specs.Labels.{named_by}
 use Rattle.replay.specs.Schedule.{after}
 use Rattle.replay.proofs.BookFile.Exclusive.{one_replayed}
 use Rattle.replay.proofs.BookFile.Replayed.{each_fits, steps_bounded}
+
+-- the label that a state was decoded from is the state's code
+pub source_offsets : {Machine Memory Place Form : Type 0} (front_code : Front → Memory → List ℕ)
+    (behind_code : Front → Memory → List (Option Place) → List ℕ) (labels : List (List ℕ)) (source : Option Source)
+    (state : State Machine Memory Place Form) (label : List ℕ) (offsets : CodeOffsets)
+    → IsSource front_code behind_code labels source state → HasCode labels source label offsets
+    → AreOffsetsOf front_code behind_code label offsets state
+source_offsets front_code behind_code labels None state label offsets from has = absurd has
+source_offsets front_code behind_code labels (Some source) state label offsets from has =
+    let same : from.0 ≡ label = cc (from.1, has.0) in rw (← same, has.1) from.2
+
+-- it still is once there is one more label
+pub source_pushed : {Machine Memory Place Form : Type 0} (front_code : Front → Memory → List ℕ)
+    (behind_code : Front → Memory → List (Option Place) → List ℕ) (labels : List (List ℕ)) (label : List ℕ)
+    (source : Option Source) (state : State Machine Memory Place Form)
+    → IsSource front_code behind_code labels source state
+    → IsSource front_code behind_code (labels ++ label ∷ []) source state
+source_pushed front_code behind_code labels label None state from = tt
+source_pushed front_code behind_code labels label (Some source) state from =
+    (from.0, get-append_left labels (label ∷ []) source.index from.0 from.1, from.2)
 
 -- a state that is alike to one that is well is well too
 pub well_there : {Machine Memory Place Form : Type 0} {rules : Rules Memory Place} → AreLawful rules
@@ -73,6 +97,19 @@ module _ {Machine Memory Place Form : Type 0} {rules : Rules Memory Place} {prog
     unshown_there order number fault (inr h) =
         inr (h.0, well_there lawful program alike h.1, λ explains. h.2 (rw (alike_history rules s c alike) explains))
 
+  -- the label that a state was decoded from is that of some state
+  pub label_of_source : IsWithinLimits program → (lines : List BookLine) (code : Form → List ℕ)
+      {labels : List (List ℕ)} → AreLabelsOf {Machine = Machine} rules program (named_by code form_of) lines labels
+      → (source : Option Source) (label : List ℕ) (offsets : CodeOffsets) → HasCode labels source label offsets
+      → (s : State Machine Memory Place Form) × AreNumbersInRange rules s × (label ≡ named_by code form_of s)
+  label_of_source limits lines code kept None label offsets has = absurd has
+  label_of_source limits lines code kept (Some source) label offsets has =
+      let w = get-map (named_by code form_of) kept.states source.index label (rw (← kept.labelled) has.0) in (
+        w.0,
+        numbers_fit rules program w.0 (each_fits lawful limits lines kept.states kept.replayed source.index w.0 w.1),
+        w.2,
+      )
+
   module _ (limits : IsWithinLimits program) (lines : List BookLine) (index : ℕ) where
     -- what is read from the label of an entry stands in for its state
     pub read_stands_for : (code : Form → List ℕ) {labels : List (List ℕ)}
@@ -89,6 +126,21 @@ module _ {Machine Memory Place Form : Type 0} {rules : Rules Memory Place} {prog
           w.1,
           record { alike = law.0; fits = law.1 program fits; steps = (let none = law.2 in omega (arith, none)) },
         )
+
+    -- what was decoded from it stands in for the entry's state
+    pub source_stands_for : (code : Form → List ℕ) {labels : List (List ℕ)}
+        → AreLabelsOf {Machine = Machine} rules program (named_by code form_of) lines labels
+        → (front_code : Front → Memory → List ℕ) (behind_code : Front → Memory → List (Option Place) → List ℕ)
+        (source : Option Source) (twin : State Machine Memory Place Form)
+        → IsSource front_code behind_code labels source twin → IsSourceAt index source
+        → ((front : Front) (s : State Machine Memory Place Form) → AreNumbersInRange rules s
+        → state_code (cut_code front_code behind_code front) twin ≡ named_by code form_of s
+        → AreStatesAlike rules s twin × ((p : Program) → Fits rules p s → Fits rules p twin) × (twin.steps ≡ 0))
+        → StandsForEntry rules program lines index twin
+    source_stands_for code kept front_code behind_code None twin from at named = absurd at
+    source_stands_for code kept front_code behind_code (Some source) twin from at named =
+        read_stands_for code kept from.0 twin (rw (← at) from.1)
+        (λ s within is. named source.offsets.front s within (sym from.2.written ∙ is))
 
     -- and so does what the way to the entry leads to
     pub run_stands_for : (way : List ℕ) (end : State Machine Memory Place Form)

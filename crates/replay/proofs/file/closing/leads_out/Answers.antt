@@ -33,6 +33,7 @@ loop-thread-preserved-then-has_step g c =
           g.M.Encode.form_code c.requires.kept c.loop-thread.next stated.0 stated.1 state
           (rw stated.2 c.requires.stands) next (ap (step rules input.program.now state) stated.3 ∙ leads))
           c.loop-thread.invariant.1,
+      c.loop-thread.invariant.2,
     )
 
 pub returns-clause-none : goal.returns-clause-none
@@ -50,3 +51,7 @@ pub returns-then-not-branch-clause-out : goal.returns-then-not-branch-clause-out
 returns-then-not-branch-clause-out g c =
     let w = rw c.loop-thread.invariant.0 at (c.in_ok-knows_step.ensures.new c.if-not-branch.true) in
     λ _. (c.loop-thread.thread, w.0, w.1, w.2)
+
+pub returns-then-not-branch-clause-source : goal.returns-then-not-branch-clause-source
+returns-then-not-branch-clause-source g c =
+    rw (c.in_ok-knows_step.ensures.source, c.in_ok-knows_step.ensures.state) c.loop-thread.invariant.2

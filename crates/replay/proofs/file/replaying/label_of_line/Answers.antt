@@ -7,12 +7,12 @@ use Rattle.replay.proofs.file.replaying.label_of_line.Goals as goal
 
 pub step_here-requires-clause-fits : goal.step_here-requires-clause-fits
 step_here-requires-clause-fits g c κs within =
-    let w = c.in_ok-recall.ensures c.requires.kept.states c.requires.kept.replayed in w.2.fits
+    let w = c.in_ok-recall.ensures.stands c.requires.kept.states c.requires.kept.replayed in w.2.fits
 
 pub step_here-requires-clause-steps_fit : goal.step_here-requires-clause-steps_fit
 step_here-requires-clause-steps_fit g c κs within =
-    let w = c.in_ok-recall.ensures c.requires.kept.states c.requires.kept.replayed in
-    let bounded : c.recall.new.state.steps ≤ c.args.line.now.parent = w.2.steps in
+    let w = c.in_ok-recall.ensures.stands c.requires.kept.states c.requires.kept.replayed in
+    let bounded : c.recall.new.replayer.state.steps ≤ c.args.line.now.parent = w.2.steps in
     let less : c.args.line.now.parent < c.len.result = c.if-parent-len.false in
     let all : c.len.result ≡ length c.args.before.now = c.len.ensures in
     let most : length c.args.before.now < 2000000 = c.requires.bounded in
@@ -28,10 +28,10 @@ pub returns-in-Err-NotEnabled-clause-amiss : goal.returns-in-Err-NotEnabled-clau
 returns-in-Err-NotEnabled-clause-amiss g c =
     let bound = g.met.M.Machine g.world.𝓛 g.world.𝓜 g.world.𝓡 ((λ s x. x), (λ x. x), (λ x. x), λ x. x) in
     let input = c.args.input.now in
-    let none : step (g.M.Machine.rules input.machine) input.program.now c.recall.new.state c.args.line.now.thread
+    let none : step (g.M.Machine.rules input.machine) input.program.now c.recall.new.replayer.state c.args.line.now.thread
     ≡ None = c.step_here.ensures.no_step.0 (c.in-Err-NotEnabled.is ∙ ap Err c.in-Err-NotEnabled.field-0-is) in
     inr (λ states so. no_step (bound.lawful input.machine) c.initial.ensures.limits (bound.forms input.machine)
-    input.lines.now c.args.line.now c.recall.new.state c.in_ok-recall.ensures states so
+    input.lines.now c.args.line.now c.recall.new.replayer.state c.in_ok-recall.ensures.stands states so
     (c.len-number.ensures ∙ same_count c.requires.kept states so) none)
 
 pub returns-in_err-test_state-clause-amiss : goal.returns-in_err-test_state-clause-amiss
@@ -42,7 +42,7 @@ returns-in_err-test_state-clause-amiss g c =
     rw (p.1, p.2) (elim (rw c.as_slice-order.ensures at c.in_err-test_state.ensures.unshown) [
       | inl memory ↦ inl memory
       | inr unshown ↦ inr (λ states so. step_amiss (bound.lawful input.machine) c.initial.ensures.limits
-          (bound.forms input.machine) input.lines.now c.args.line.now c.recall.new.state c.in_ok-recall.ensures states
+          (bound.forms input.machine) input.lines.now c.args.line.now c.recall.new.replayer.state c.in_ok-recall.ensures.stands states
           so c.step_here.new.self c.in-Ok.ensures.step (c.len-number.ensures ∙ same_count c.requires.kept states so)
           c.in_err-test_state.field-0.0 unshown)
     ])
@@ -52,6 +52,6 @@ returns-clause-tells g c states so =
     let bound = g.met.M.Machine g.world.𝓛 g.world.𝓜 g.world.𝓡 ((λ s x. x), (λ x. x), (λ x. x), λ x. x) in
     let input = c.args.input.now in
     step_passes (bound.lawful input.machine) c.initial.ensures.limits (bound.forms input.machine) input.lines.now
-    c.args.line.now c.recall.new.state c.in_ok-recall.ensures states so c.step_here.new.self c.in-Ok.ensures.step
-    g.M.Encode.form_code c.in_ok-label.field-0 c.in_ok-label.ensures
+    c.args.line.now c.recall.new.replayer.state c.in_ok-recall.ensures.stands states so c.step_here.new.self c.in-Ok.ensures.step
+    g.M.Encode.form_code c.in_ok-label.label c.in_ok-label.ensures.label
     (rw c.as_slice-order.ensures at c.in_ok-test_state.ensures.shown)
