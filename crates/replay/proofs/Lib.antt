@@ -1,3 +1,4 @@
 pub mod Text
 mod BookFile
+mod Either
 mod Stopping

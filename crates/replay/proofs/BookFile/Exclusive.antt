@@ -1,22 +1,20 @@
 -- What lines are refused for: one thing at most, and nothing where they pass.
-use Rattle.std.proofs.Common.{◌≡◌, ℕ, ◌≤◌, inl, inr, Some, List, [], ◌∷◌, ◌++◌, length, sym}
-use Rattle.std.proofs.Common.{◌∙◌, arith, slice_get}
-use Rattle.std.proofs.lemmas.Bool.{cases_lt}
-use Rattle.std.proofs.lemmas.Option.{slice_get_within}
+use Rattle.std.proofs.Common.{◌≡◌, ℕ, inl, inr, List, [], ◌∷◌, ◌++◌, sym}
+use Rattle.std.proofs.Common.{◌∙◌}
+use Rattle.std.proofs.lemmas.Bool.{cases_order}
+use Rattle.std.proofs.lemmas.Option.{slice_get_past}
 use Rattle.sched_program.specs.Program.{Program}
 use Rattle.sched_program.specs.declared.operation.OpId.{OpId}
 use Rattle.tree_machine.specs.Rules.{Rules}
-use Rattle.tree_machine.specs.Alike.{AreStatesAlike}
 use Rattle.tree_machine.specs.Step.{start}
 use Rattle.tree_machine.specs.declared.state.State.{State}
-use Rattle.replay.specs.Closed.{AreClosed}
-use Rattle.replay.specs.Findings.{machine_of}
 use Rattle.replay.specs.declared.file.line.BookLine.{BookLine}
 use Rattle.replay.specs.declared.file.fault.CheckFault.{CheckFault}
-use Rattle.replay.specs.BookFile.Replays.{IsShown, IsUnshown, Reaches, IsStuck, Tells, IsAmiss, Continues, FirstAmiss}
+use Rattle.replay.specs.BookFile.Replays.{IsShown, IsUnshown, Reaches, Tells, IsAmiss, Continues, FirstAmiss}
 use Rattle.replay.specs.BookFile.Replays.{AreReplayed, IsFirstAmiss}
 use Rattle.replay.specs.BookFile.Closing.{IsFirstOpen}
 use Rattle.replay.specs.BookFile.Checks.{Pass, AreRefused}
+use Rattle.replay.proofs.Either.{AtMostOne, one_of_either}
 
 module _ {Machine Memory Place Form : Type 0} (rules : Rules Memory Place) (program : Program) where
   -- a state that an order shows has nothing unshown
@@ -25,12 +23,10 @@ module _ {Machine Memory Place Form : Type 0} (rules : Rules Memory Place) (prog
   shown_not_unshown s order n f shown (inl a) = a.1 shown.0
   shown_not_unshown s order n f shown (inr a) = a.2 shown.1
 
-  one_unshown : (s : State Machine Memory Place Form) (order : List OpId) (n : ℕ) (f g : CheckFault)
-      → IsUnshown rules program s order n f → IsUnshown rules program s order n g → f ≡ g
-  one_unshown s order n f g (inl a) (inl b) = a.0 ∙ sym b.0
-  one_unshown s order n f g (inl a) (inr b) = absurd (a.1 b.1)
-  one_unshown s order n f g (inr a) (inl b) = absurd (b.1 a.1)
-  one_unshown s order n f g (inr a) (inr b) = a.0 ∙ sym b.0
+  one_unshown : (s : State Machine Memory Place Form) (order : List OpId) (n : ℕ)
+      → AtMostOne (IsUnshown rules program s order n)
+  one_unshown s order n =
+      one_of_either (λ f g a b. a.0 ∙ sym b.0) (λ f g a b. a.0 ∙ sym b.0) (λ f g a b. a.1 b.1)
 
   module _ (before : List (State Machine Memory Place Form)) (line : BookLine) where
     -- the line reaches one state at most
@@ -38,40 +34,25 @@ module _ {Machine Memory Place Form : Type 0} (rules : Rules Memory Place) (prog
         → Reaches rules program before line s → r ≡ s
     one_reached r s a b = cc
 
-    -- and none where its parent is none of the states, or its thread is not enabled
-    there_not_missing : (p : State Machine Memory Place Form) → slice_get before line.parent ≡ Some p
-        → length before ≤ line.parent → ⊥
-    there_not_missing p at many = absurd (omega (arith, slice_get_within before line.parent p at))
-
-    reached_not_missing : (s : State Machine Memory Place Form) → Reaches rules program before line s
-        → length before ≤ line.parent → ⊥
-    reached_not_missing s a = there_not_missing a.parent a.at
-
-    reached_not_stuck : (s : State Machine Memory Place Form) → Reaches rules program before line s
-        → IsStuck rules program before line → ⊥
-    reached_not_stuck s a stuck = cc (stuck.1, stuck.2)
-
     passing_not_amiss : (s : State Machine Memory Place Form) (f : CheckFault) → Tells rules program before line s
         → IsAmiss rules program before line f → ⊥
-    passing_not_amiss s f stated (inl a) = reached_not_missing s stated.0 a.1
-    passing_not_amiss s f stated (inr (inl a)) = reached_not_stuck s stated.0 a.1
-    passing_not_amiss s f stated (inr (inr a)) =
-        shown_not_unshown a.0 _ _ f (rw (one_reached a.0 s a.1 stated.0) stated.1) a.2
+    passing_not_amiss s f tells (inl a) = cc (slice_get_past before line.parent a.1, tells.0.at)
+    passing_not_amiss s f tells (inr (inl a)) = cc (a.1.1, a.1.2, tells.0.at, tells.0.step)
+    passing_not_amiss s f tells (inr (inr a)) =
+        shown_not_unshown a.0 _ _ f (rw (one_reached a.0 s a.1 tells.0) tells.1) a.2
 
-    one_amiss : (f g : CheckFault) → IsAmiss rules program before line f → IsAmiss rules program before line g → f ≡ g
-    one_amiss f g (inl a) (inl b) = a.0 ∙ sym b.0
-    one_amiss f g (inl a) (inr (inl b)) = absurd (there_not_missing b.1.0 b.1.1 a.1)
-    one_amiss f g (inl a) (inr (inr b)) = absurd (reached_not_missing b.0 b.1 a.1)
-    one_amiss f g (inr (inl a)) (inl b) = absurd (there_not_missing a.1.0 a.1.1 b.1)
-    one_amiss f g (inr (inl a)) (inr (inl b)) = a.0 ∙ sym b.0
-    one_amiss f g (inr (inl a)) (inr (inr b)) = absurd (reached_not_stuck b.0 b.1 a.1)
-    one_amiss f g (inr (inr a)) (inl b) = absurd (reached_not_missing a.0 a.1 b.1)
-    one_amiss f g (inr (inr a)) (inr (inl b)) = absurd (reached_not_stuck a.0 a.1 b.1)
-    one_amiss f g (inr (inr a)) (inr (inr b)) =
-        one_unshown a.0 _ _ f g a.2 (rw (one_reached a.0 b.0 a.1 b.1) b.2)
+    one_amiss : AtMostOne (IsAmiss rules program before line)
+    one_amiss =
+        one_of_either (λ f g a b. a.0 ∙ sym b.0)
+        (one_of_either (λ f g a b. a.0 ∙ sym b.0)
+        (λ f g a b. one_unshown a.0 _ _ f g a.2 (rw (one_reached a.0 b.0 a.1 b.1) b.2))
+        (λ f g stuck reached. cc (stuck.1.1, stuck.1.2, reached.1.at, reached.1.step)))
+        (λ f g missing other.
+        let none = slice_get_past before line.parent missing.1 in
+        elim other [ inl stuck ↦ cc (none, stuck.1.1) | inr reached ↦ cc (none, reached.1.at) ])
 
-  -- lines describe one list of states, and nothing is amiss with them then
-  pub one_continued : (before : List (State Machine Memory Place Form)) (lines : List BookLine)
+  -- lines go on to one list of states, and nothing is amiss with them then
+  one_continued : (before : List (State Machine Memory Place Form)) (lines : List BookLine)
       (states others : List (State Machine Memory Place Form))
       → Continues rules program before lines states → Continues rules program before lines others → states ≡ others
   one_continued before [] states others a b = a ∙ sym b
@@ -87,44 +68,37 @@ module _ {Machine Memory Place Form : Type 0} (rules : Rules Memory Place) (prog
       continued_not_amiss (before ++ so.0 ∷ []) lines states f so.2
       (rw (one_reached before line so.0 h.0 so.1.0 h.1.0) h.2)
 
-  one_first : (before : List (State Machine Memory Place Form)) (lines : List BookLine) (f g : CheckFault)
-      → FirstAmiss rules program before lines f → FirstAmiss rules program before lines g → f ≡ g
-  one_first before [] f g a b = absurd a
-  one_first before (line ∷ lines) f g (inl a) (inl b) = one_amiss before line f g a b
-  one_first before (line ∷ lines) f g (inl a) (inr b) = absurd (passing_not_amiss before line b.0 f b.1 a)
-  one_first before (line ∷ lines) f g (inr a) (inl b) = absurd (passing_not_amiss before line a.0 g a.1 b)
-  one_first before (line ∷ lines) f g (inr a) (inr b) =
-      one_first (before ++ a.0 ∷ []) lines f g a.2 (rw (one_reached before line a.0 b.0 a.1.0 b.1.0) b.2)
+  one_first : (before : List (State Machine Memory Place Form)) (lines : List BookLine)
+      → AtMostOne (FirstAmiss rules program before lines)
+  one_first before [] = λ f g a b. absurd a
+  one_first before (line ∷ lines) =
+      one_of_either (one_amiss before line)
+      (λ f g a b. one_first (before ++ a.0 ∷ []) lines f g a.2 (rw (one_reached before line a.0 b.0 a.1.0 b.1.0) b.2))
+      (λ f g a b. passing_not_amiss before line b.0 f b.1 a)
 
-  one_open : (states : List (State Machine Memory Place Form)) (f g : CheckFault) → IsFirstOpen rules program states f
-      → IsFirstOpen rules program states g → f ≡ g
+  one_open : (states : List (State Machine Memory Place Form)) → AtMostOne (IsFirstOpen rules program states)
   one_open states f g a b =
-      elim (cases_lt a.index b.index) [
-        | inl l ↦ absurd (b.first a.index a.state l a.at a.leads_out)
-        | inr ge ↦ (elim (cases_lt b.index a.index) [
-          | inl l ↦ absurd (a.first b.index b.state l b.at b.leads_out)
-          | inr le ↦ (let same : a.index ≡ b.index = omega arith in cc)
-        ])
+      elim (cases_order a.index b.index) [
+        | inl same ↦ cc
+        | inr (inl less) ↦ absurd (b.first a.index a.state less a.at a.leads_out)
+        | inr (inr more) ↦ absurd (a.first b.index b.state more b.at b.leads_out)
       ]
-
-  -- no step leads out of states that are closed
-  closed_not_open : (states : List (State Machine Memory Place Form)) (f : CheckFault)
-      → AreClosed (machine_of rules program) (AreStatesAlike rules) states → IsFirstOpen rules program states f → ⊥
-  closed_not_open states f closed a =
-      let out = a.leads_out in
-      out.3 (closed.steps a.index out.0 a.state out.1 a.at out.2)
 
 module _ (Machine Form : Type 0) {Memory Place : Type 0} (rules : Rules Memory Place) (program : Program)
     (lines : List BookLine) where
   abbrev first : State Machine Memory Place Form
   first = start rules program
 
-  one_first_amiss : (f g : CheckFault) → IsFirstAmiss Machine Form rules program lines f
-      → IsFirstAmiss Machine Form rules program lines g → f ≡ g
-  one_first_amiss f g (inl a) (inl b) = one_unshown rules program first [] 2 f g a b
-  one_first_amiss f g (inl a) (inr b) = absurd (shown_not_unshown rules program first [] 2 f b.0 a)
-  one_first_amiss f g (inr a) (inl b) = absurd (shown_not_unshown rules program first [] 2 g a.0 b)
-  one_first_amiss f g (inr a) (inr b) = one_first rules program (first ∷ []) lines f g a.1 b.1
+  -- lines describe one list of states
+  pub one_replayed : (states others : List (State Machine Memory Place Form)) → AreReplayed rules program lines states
+      → AreReplayed rules program lines others → states ≡ others
+  one_replayed states others a b = one_continued rules program (first ∷ []) lines states others a.1 b.1
+
+  one_first_amiss : AtMostOne (IsFirstAmiss Machine Form rules program lines)
+  one_first_amiss =
+      one_of_either (one_unshown rules program first [] 2)
+      (λ f g a b. one_first rules program (first ∷ []) lines f g a.1 b.1)
+      (λ f g a b. shown_not_unshown rules program first [] 2 f b.0 a)
 
   replayed_not_amiss : (states : List (State Machine Memory Place Form)) (f : CheckFault)
       → AreReplayed rules program lines states → IsFirstAmiss Machine Form rules program lines f → ⊥
@@ -132,19 +106,17 @@ module _ (Machine Form : Type 0) {Memory Place : Type 0} (rules : Rules Memory P
   replayed_not_amiss states f so (inr a) = continued_not_amiss rules program (first ∷ []) lines states f so.1 a.1
 
   -- lines are refused for one thing at most
-  pub one_refusal : (f g : CheckFault) → AreRefused Machine Form rules program lines f
-      → AreRefused Machine Form rules program lines g → f ≡ g
-  one_refusal f g (inl a) (inl b) = one_first_amiss f g a b
-  one_refusal f g (inl a) (inr b) = absurd (replayed_not_amiss b.0 f b.1 a)
-  one_refusal f g (inr a) (inl b) = absurd (replayed_not_amiss a.0 g a.1 b)
-  one_refusal f g (inr a) (inr b) =
-      one_open rules program a.0 f g a.2
-      (rw (one_continued rules program (first ∷ []) lines a.0 b.0 a.1.1 b.1.1) b.2)
+  pub one_refusal : AtMostOne (AreRefused Machine Form rules program lines)
+  one_refusal =
+      one_of_either one_first_amiss
+      (λ f g a b. one_open rules program a.0 f g a.2 (rw (one_replayed a.0 b.0 a.1 b.1) b.2))
+      (λ f g a b. replayed_not_amiss b.0 f b.1 a)
 
   -- and for nothing where they pass
   pub pass_not_refused : (f : CheckFault) → Pass Machine Form rules program lines
       → AreRefused Machine Form rules program lines f → ⊥
   pass_not_refused f pass (inl a) = replayed_not_amiss pass.0 f pass.1 a
   pass_not_refused f pass (inr a) =
-      closed_not_open rules program pass.0 f pass.2
-      (rw (one_continued rules program (first ∷ []) lines pass.0 a.0 pass.1.1 a.1.1) a.2)
+      let is : IsFirstOpen rules program pass.0 f = rw (one_replayed pass.0 a.0 pass.1 a.1) a.2 in
+      let out = is.leads_out in
+      out.3 (pass.2.steps is.index out.0 is.state out.1 is.at out.2)

@@ -1,5 +1,5 @@
 -- What labels tell of alike states.
-use Rattle.std.proofs.Common.{◌≡◌, ℕ, suc, ◌+◌, ◌<◌, ◌≤◌, inl, inr, Some, Option, List, length, Contains, refl}
+use Rattle.std.proofs.Common.{◌≡◌, ℕ, suc, ◌+◌, ◌<◌, inl, inr, Some, Option, List, length, Contains, refl}
 use Rattle.std.proofs.Common.{arith, slice_get}
 use Rattle.std.proofs.lemmas.Bool.{cases_lt}
 use Rattle.std.proofs.lemmas.Option.{slice_get_within}
@@ -13,21 +13,18 @@ use Rattle.tree_machine.specs.Laws.FormCode.{content_readable}
 use Rattle.tree_machine.specs.Step.{step, Fits}
 use Rattle.tree_machine.specs.declared.state.State.{State}
 use Rattle.tree_machine.proofs.Alike.{alike_step}
-use Rattle.tree_machine.proofs.Forms.{forms_alike, alike_turned}
-use Rattle.tree_machine.proofs.Lists.{get_at, get-map, map-get}
+use Rattle.tree_machine.proofs.Forms.{forms_alike}
+use Rattle.tree_machine.proofs.Lists.{get-map, map-get}
 use Rattle.replay.specs.Closed.{IsAlikeToOneOf}
-use Rattle.replay.specs.Findings.{machine_of}
 use Rattle.replay.specs.Labels.{named_by}
-use Rattle.replay.specs.Schedule.{IsMachine}
 use Rattle.replay.specs.BookFile.Checks.{AreRefused, Pass}
 use Rattle.replay.specs.BookFile.Kept.{AreLabelsOf, AreStepsKnown, IsStepUnknown, StandsFor, StandsForEntry}
 use Rattle.replay.specs.BookFile.Replays.{AreReplayed}
 use Rattle.replay.specs.declared.file.fault.CheckFault.TheVariants.{Open}
 use Rattle.replay.specs.declared.file.line.BookLine.{BookLine}
-use Rattle.replay.proofs.BookFile.Recalled.{IsStepBy, line_of}
-use Rattle.replay.proofs.BookFile.Replayed.{begins, count_labels, count_states, each_fits}
-use Rattle.replay.proofs.BookFile.Twins.{one_label, step_there}
-use Rattle.replay.specs.Laws.Machines.{is_machine}
+use Rattle.replay.proofs.BookFile.Recalled.{told_by}
+use Rattle.replay.proofs.BookFile.Replayed.{begins, each_fits, machine, same_count}
+use Rattle.replay.proofs.BookFile.Twins.{one_label, step_there, turned}
 
 -- the steps of the first entries' states have labels that are known
 abbrev pub AreKnownBelow : {Machine Memory Place Form : Type 0} (rules : Rules Memory Place) (program : Program)
@@ -37,72 +34,72 @@ AreKnownBelow {Machine} {Memory} {Place} {Form} rules program label_of lines lab
     (s : State Machine Memory Place Form) → i < n → slice_get states i ≡ Some s
     → AreStepsKnown rules program label_of labels s
 
-module _ {Machine Memory Place Form : Type 0} (rules : Rules Memory Place) (program : Program)
-    (lawful : AreLawful rules) (limits : IsWithinLimits program)
-    (form_of : Memory → List (Option Place) → Form) (forms : AreFormsExact rules form_of)
-    (code : Form → List ℕ) (lines : List BookLine) (labels : List (List ℕ)) where
+-- the label of each step of a thread below n is known
+abbrev pub AreStepsKnownBelow : {Machine Memory Place Form : Type 0} (rules : Rules Memory Place) (program : Program)
+    (label_of : State Machine Memory Place Form → List ℕ) (labels : List (List ℕ))
+    (s : State Machine Memory Place Form) → ℕ → Type 0
+AreStepsKnownBelow {Machine} {Memory} {Place} {Form} rules program label_of labels s n =
+    (t : ℕ) (next : State Machine Memory Place Form) → t < n → step rules program s t ≡ Some next
+    → Contains labels (label_of next)
+
+-- one more thread was tried
+pub one_more_thread : {Machine Memory Place Form : Type 0} (rules : Rules Memory Place) (program : Program)
+    (label_of : State Machine Memory Place Form → List ℕ) (labels : List (List ℕ))
+    (s : State Machine Memory Place Form) (n : ℕ)
+    → ((next : State Machine Memory Place Form) → step rules program s n ≡ Some next → Contains labels (label_of next))
+    → AreStepsKnownBelow rules program label_of labels s n
+    → AreStepsKnownBelow rules program label_of labels s (n + 1)
+one_more_thread rules program label_of labels s n last so t next less leads =
+    elim (cases_lt t n) [
+      | inl l ↦ so t next l leads
+      | inr ge ↦ (let e : t ≡ n = omega arith in last next (rw (← e) leads))
+    ]
+
+module _ {Machine Memory Place Form : Type 0} {rules : Rules Memory Place} {program : Program}
+    (lawful : AreLawful rules) (limits : IsWithinLimits program) {form_of : Memory → List (Option Place) → Form}
+    (forms : AreFormsExact rules form_of) (code : Form → List ℕ) where
   abbrev label : State Machine Memory Place Form → List ℕ
   label = named_by code form_of
 
-  machine : IsMachine (machine_of {Machine = Machine} {Form = Form} rules program)
-  machine = is_machine rules program lawful limits
-
   -- what is known of the steps of a state that stands in for another one is known of that one's
-  twin_known : (most : ℕ) (s c : State Machine Memory Place Form) → Fits rules program s
+  twin_known : (labels : List (List ℕ)) {most : ℕ} {s c : State Machine Memory Place Form} → Fits rules program s
       → StandsFor rules program most s c → AreStepsKnown rules program label labels c
       → AreStepsKnown rules program label labels s
-  twin_known most s c fits stands known t u leads =
+  twin_known labels {most} {s} {c} fits stands known t u leads =
       let w = alike_step rules s c lawful stands.alike program t u leads in
-      let u_fits = machine.step_fits s u t fits leads in
-      let v_fits = machine.step_fits c w.0 t stands.fits w.1 in
-      rw (one_label rules program lawful limits form_of forms u w.0 u_fits v_fits w.2 code) (known t w.0 w.1)
+      let u_fits = (machine lawful limits).step_fits s u t fits leads in
+      let v_fits = (machine lawful limits).step_fits c w.0 t stands.fits w.1 in
+      rw (one_label lawful forms u_fits v_fits w.2 code) (known t w.0 w.1)
 
   -- .. and those of the next one too
-  pub known_next : (i : ℕ) (c : State Machine Memory Place Form) → StandsForEntry rules program lines i c
-      → AreStepsKnown rules program label labels c → AreKnownBelow rules program label lines labels i
-      → AreKnownBelow rules program label lines labels (i + 1)
-  known_next i c stands known so states replayed j r below at =
+  pub known_next : (lines : List BookLine) (labels : List (List ℕ)) (i : ℕ) (c : State Machine Memory Place Form)
+      → StandsForEntry rules program lines i c → AreStepsKnown rules program label labels c
+      → AreKnownBelow rules program label lines labels i → AreKnownBelow rules program label lines labels (i + 1)
+  known_next lines labels i c stands known so states replayed j r below at =
       elim (cases_lt j i) [
         | inl l ↦ so states replayed j r l at
         | inr ge ↦ (
             let place : j ≡ i = omega arith in
             let w = stands states replayed in
             let same : r ≡ w.0 = cc (w.1) in
-            let fits : Fits rules program r = each_fits rules program lawful limits lines states replayed j r at in
-            twin_known i r c fits (rw same w.2) known)
+            let fits : Fits rules program r = each_fits lawful limits lines states replayed j r at in
+            twin_known labels {most = i} fits (rw same w.2) known)
       ]
 
-  module _ (readable : IsInjective code) (kept : AreLabelsOf rules program label lines labels) where
+  module _ {lines : List BookLine} {labels : List (List ℕ)} (kept : AreLabelsOf rules program label lines labels) where
     abbrev states : List (State Machine Memory Place Form)
     states = kept.states
 
     fit : (i : ℕ) (s : State Machine Memory Place Form) → slice_get states i ≡ Some s → Fits rules program s
-    fit = each_fits rules program lawful limits lines states kept.replayed
+    fit = each_fits lawful limits lines states kept.replayed
 
-    -- one of the states is alike to a state that fits exactly if the label of this is known
-    known_alike : (s : State Machine Memory Place Form) → Fits rules program s → Contains labels (label s)
-        → IsAlikeToOneOf (AreStatesAlike rules) states s
-    known_alike s fits has =
-        let w = slice_get-Contains labels (label s) has in
-        let r = get-map label states w.0 (label s) (rw (← kept.labelled) w.1) in
-        let r_fits = fit w.0 r.0 r.1 in (
-          w.0,
-          r.0,
-          r.1,
-          alike_turned rules form_of forms program s r.0 fits r_fits
-              ((forms_alike rules form_of forms program program s r.0 fits r_fits).0
-              (content_readable code readable (state_form form_of s) (state_form form_of r.0)
-              (number_split 0 0 (content_code code (state_form form_of s)) (content_code code (state_form form_of r.0))
-              r.2).1)),
-        )
-
+    -- the label of a state that fits is known where one of the states is alike to it
     alike_known : (s : State Machine Memory Place Form) → Fits rules program s
         → IsAlikeToOneOf (AreStatesAlike rules) states s → Contains labels (label s)
     alike_known s fits among =
-        let same : label among.1 ≡ label s =
-        one_label rules program lawful limits form_of forms among.1 s (fit among.0 among.1 among.2) fits among.3 code in
         Contains-slice_get labels among.0 (label s)
-        (rw (kept.labelled, ← same) (map-get label states among.0 among.1 among.2))
+        (rw (kept.labelled, ← one_label lawful forms (fit among.0 among.1 among.2) fits among.3 code)
+        (map-get label states among.0 among.1 among.2))
 
     -- a step that a line has leads to the state of the line's own entry, whose label is known
     pub line_known : (k : ℕ) (line : BookLine) → slice_get lines k ≡ Some line
@@ -111,88 +108,67 @@ module _ {Machine Memory Place Form : Type 0} (rules : Rules Memory Place) (prog
         → Contains labels (label n)
     line_known k line at c stands n leads =
         let w = stands states kept.replayed in
-        let many : length states ≡ length lines + 1 = count_states rules program lines states kept.replayed in
-        let less : k < length lines = slice_get_within lines k line at in
-        let own = get_at states (suc k) (omega arith) in
-        let v = line_of rules program lines states kept.replayed k (omega arith) own.0 own.1 in
-        let own_line : v.0 ≡ line = cc (v.1) in
-        let by : IsStepBy rules program states (suc k) line own.0 = rw own_line at v.2 in
-        let u = step_there rules program lawful limits form_of forms w.0 c (fit line.parent w.0 w.1) w.2.fits w.2.alike
-        line.thread n leads in
-        let there : u.0 ≡ own.0 = cc (u.1, w.1) in
-        Contains-slice_get labels (suc k) (label n)
-        (rw (kept.labelled, one_label rules program lawful limits form_of forms n u.0 u.3 u.2 u.4 code, there)
-        (map-get label states (suc k) own.0 own.1))
+        let (own, there, by) = told_by rules program lines states kept.replayed k line at in
+        let u = step_there lawful forms (fit line.parent w.0 w.1) w.2.fits w.2.alike line.thread n leads in
+        let same : u.0 ≡ own = cc (u.1, w.1) in
+        alike_known n u.3 (suc k, own, there, rw same at (turned lawful forms u.3 u.2 u.4))
 
-    -- a step of the next entry's state is not known
-    pub open_next : (i : ℕ) (c : State Machine Memory Place Form) → StandsForEntry rules program lines i c
-        → IsStepUnknown rules program label labels c → AreKnownBelow rules program label lines labels i
-        → AreRefused Machine Form rules program lines (Open (i + 2))
-    open_next i c stands out so =
-        let w = stands states kept.replayed in
-        let s_fits = fit i w.0 w.1 in
-        let u = step_there rules program lawful limits form_of forms w.0 c s_fits w.2.fits w.2.alike out.0 out.1
-        out.2 in
-        inr (
-          states,
-          kept.replayed,
-          record {
-            index = i;
-            state = w.0;
-            at = w.1;
-            stated = refl;
-            leads_out = (
-              out.0,
-              u.0,
-              u.1,
-              λ among. out.3 (rw (one_label rules program lawful limits form_of forms out.1 u.0 u.3 u.2 u.4 code)
-                  (alike_known u.0 u.2 among)),
-            );
-            first = (λ j r below at out_of_r. out_of_r.3
-                (known_alike out_of_r.1 (machine.step_fits r out_of_r.1 out_of_r.0 (fit j r at) out_of_r.2)
-                (so states kept.replayed j r below at out_of_r.0 out_of_r.1 out_of_r.2)));
-          },
-        )
+    module _ (readable : IsInjective code) where
+      -- and only there
+      known_alike : (s : State Machine Memory Place Form) → Fits rules program s → Contains labels (label s)
+          → IsAlikeToOneOf (AreStatesAlike rules) states s
+      known_alike s fits has =
+          let w = slice_get-Contains labels (label s) has in
+          let r = get-map label states w.0 (label s) (rw (← kept.labelled) w.1) in
+          let r_fits = fit w.0 r.0 r.1 in (
+            w.0,
+            r.0,
+            r.1,
+            turned lawful forms fits r_fits ((forms_alike rules form_of forms program program s r.0 fits r_fits).0
+                (content_readable code readable (state_form form_of s) (state_form form_of r.0)
+                (number_split 0 0 (content_code code (state_form form_of s))
+                (content_code code (state_form form_of r.0)) r.2).1)),
+          )
 
-    pub known_closed : AreKnownBelow rules program label lines labels (length labels)
-        → Pass Machine Form rules program lines
-    known_closed so = (
-      states,
-      kept.replayed,
-      record {
-        fit = fit;
-        start = begins rules program lawful limits form_of forms lines states kept.replayed;
-        steps = (λ i t s r at leads.
-            let less : i < length states = slice_get_within states i s at in
-            let many : length states ≡ length lines + 1 = count_states rules program lines states kept.replayed in
-            let all : length labels ≡ length lines + 1 = count_labels rules program label lines labels kept in
-            known_alike r (machine.step_fits s r t (fit i s at) leads)
-            (so states kept.replayed i s (omega arith) at t r leads));
-      },
-    )
+      -- a step of the next entry's state is not known
+      pub open_next : (i : ℕ) (c : State Machine Memory Place Form) → StandsForEntry rules program lines i c
+          → IsStepUnknown rules program label labels c → AreKnownBelow rules program label lines labels i
+          → AreRefused Machine Form rules program lines (Open (i + 2))
+      open_next i c stands out so =
+          let w = stands states kept.replayed in
+          let u = step_there lawful forms (fit i w.0 w.1) w.2.fits w.2.alike out.0 out.1 out.2 in
+          inr (
+            states,
+            kept.replayed,
+            record {
+              index = i;
+              state = w.0;
+              at = w.1;
+              stated = refl;
+              leads_out = (
+                out.0,
+                u.0,
+                u.1,
+                λ among. out.3 (rw (one_label lawful forms u.3 u.2 u.4 code) (alike_known u.0 u.2 among)),
+              );
+              first = (λ j r below at out_of_r. out_of_r.3 (known_alike out_of_r.1
+                  ((machine lawful limits).step_fits r out_of_r.1 out_of_r.0 (fit j r at) out_of_r.2)
+                  (so states kept.replayed j r below at out_of_r.0 out_of_r.1 out_of_r.2)));
+            },
+          )
 
--- no thread but those of the program takes a step
-pub no_more_threads : {Machine Memory Place Form : Type 0} (rules : Rules Memory Place) (program : Program)
-    → AreLawful rules → IsWithinLimits program
-    → (label_of : State Machine Memory Place Form → List ℕ) (labels : List (List ℕ))
-    (s : State Machine Memory Place Form) (n : ℕ)
-    → length program.threads ≤ n
-    → ((t : ℕ) (next : State Machine Memory Place Form) → t < n → step rules program s t ≡ Some next
-    → Contains labels (label_of next)) → AreStepsKnown rules program label_of labels s
-no_more_threads rules program lawful limits label_of labels s n many so t next leads =
-    so t next (omega (arith, (is_machine rules program lawful limits).is_thread s next t leads)) leads
-
--- one more thread was tried
-pub one_more_thread : {Machine Memory Place Form : Type 0} (rules : Rules Memory Place) (program : Program)
-    (label_of : State Machine Memory Place Form → List ℕ) (labels : List (List ℕ))
-    (s : State Machine Memory Place Form) (n : ℕ)
-    → ((next : State Machine Memory Place Form) → step rules program s n ≡ Some next → Contains labels (label_of next))
-    → ((t : ℕ) (next : State Machine Memory Place Form) → t < n → step rules program s t ≡ Some next
-    → Contains labels (label_of next))
-    → (t : ℕ) (next : State Machine Memory Place Form) → t < n + 1 → step rules program s t ≡ Some next
-    → Contains labels (label_of next)
-one_more_thread rules program label_of labels s n last so t next less leads =
-    elim (cases_lt t n) [
-      | inl l ↦ so t next l leads
-      | inr ge ↦ (let e : t ≡ n = omega arith in last next (rw (← e) leads))
-    ]
+      pub known_closed : AreKnownBelow rules program label lines labels (length labels)
+          → Pass Machine Form rules program lines
+      known_closed so = (
+        states,
+        kept.replayed,
+        record {
+          fit = fit;
+          start = begins lawful limits lines states kept.replayed form_of forms;
+          steps = (λ i t s r at leads.
+              let less : i < length labels =
+              omega (arith, slice_get_within states i s at, same_count kept states kept.replayed) in
+              known_alike r ((machine lawful limits).step_fits s r t (fit i s at) leads)
+              (so states kept.replayed i s less at t r leads));
+        },
+      )

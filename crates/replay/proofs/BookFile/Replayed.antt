@@ -1,8 +1,8 @@
 -- States that lines describe, one line after the other.
-use Rattle.std.proofs.Common.{◌≡◌, ℕ, zero, suc, ◌+◌, ◌<◌, ◌≤◌, ◌⊎◌, inl, inr, get_or, take, drop, Some, Option}
+use Rattle.std.proofs.Common.{◌≡◌, ℕ, ◌+◌, ◌<◌, ◌≤◌, inl, inr, get_or, take, drop, Some, Option}
 use Rattle.std.proofs.Common.{List, [], ◌∷◌, ◌++◌, length, refl, sym, ap, ◌∙◌, arith, slice_get}
 use Rattle.std.proofs.Math.ListN.{length-map}
-use Rattle.std.proofs.lemmas.List.{drop_more, length_push, length-take-le, map-append, take-append-drop, take_more}
+use Rattle.std.proofs.lemmas.List.{length_push, length-take-le, map-append, take_more}
 use Rattle.std.proofs.lemmas.Option.{slice_get_within}
 use Rattle.sched_program.specs.Program.{Program, IsWithinLimits}
 use Rattle.tree_machine.specs.Rules.{Rules, AreLawful, AreFormsExact}
@@ -17,31 +17,24 @@ use Rattle.replay.specs.Findings.{machine_of}
 use Rattle.replay.specs.Laws.Machines.{is_machine, step_counts}
 use Rattle.replay.specs.declared.file.line.BookLine.{BookLine}
 use Rattle.replay.specs.declared.file.fault.CheckFault.{CheckFault}
-use Rattle.replay.specs.declared.file.fault.CheckFault.TheVariants.{OutOfMemory}
-use Rattle.replay.specs.BookFile.Replays.{IsShown, IsUnshown, Reaches, Tells, IsAmiss, Continues, FirstAmiss}
+use Rattle.replay.specs.BookFile.Replays.{IsShown, Reaches, Tells, IsAmiss, Continues, FirstAmiss}
 use Rattle.replay.specs.BookFile.Replays.{IsFirstAmiss, AreReplayed}
 use Rattle.replay.specs.BookFile.Kept.{AreLabelsOf}
+use Rattle.replay.proofs.Text.Cuts.{split_at}
 
 -- the one item after a list, or an item of it
 pub last_item_or : {X : Type 0} (P : ℕ → X → Type 0) (xs : List X) (y : X)
     → ((i : ℕ) (x : X) → slice_get xs i ≡ Some x → P i x) → P (length xs) y
     → (i : ℕ) (x : X) → slice_get (xs ++ y ∷ []) i ≡ Some x → P i x
-last_item_or {X} P xs y all last i x at =
+last_item_or P xs y all last i x at =
     elim (get-append_cases xs (y ∷ []) i x at) [
       | inl l ↦ all i x l
-      | inr r ↦ only r.0 r.1 r.2
+      | inr r ↦ (
+          let first : r.0 ≡ 0 = omega (arith, slice_get_within (y ∷ []) r.0 x r.2) in
+          let place : i ≡ length xs = omega (arith, r.1) in
+          let same : x ≡ y = cc (rw first at r.2) in
+          rw (place, same) last)
     ]
-  where
-    only : (k : ℕ) → i ≡ length xs + k → slice_get (y ∷ []) k ≡ Some x → P i x
-    only zero e h = let same : x ≡ y = cc in
-        let place : i ≡ length xs = omega arith in rw (place, same) last
-    only (suc k) e h = absurd cc
-
--- a list before, at and after a place
-split_at : {X : Type 0} (xs : List X) (i : ℕ) (x : X) → i < length xs → x ≡ get_or xs i x
-    → xs ≡ take i xs ++ x ∷ drop (i + 1) xs
-split_at xs i x less is =
-    sym (take-append-drop i xs) ∙ (λ j. take i xs ++ (drop_more xs i x less ∙ (λ k. sym is k ∷ drop (i + 1) xs)) j)
 
 module _ {Machine Memory Place Form : Type 0} (rules : Rules Memory Place) (program : Program) where
   -- one more line
@@ -64,22 +57,25 @@ module _ {Machine Memory Place Form : Type 0} (rules : Rules Memory Place) (prog
       inr (so.0, so.1, amiss_next (before ++ so.0 ∷ []) lines line rest states fault so.2 amiss)
 
   -- what holds of the first states, and of each that a line describes, holds of all
-  pub along : (P : ℕ → State Machine Memory Place Form → Type 0)
-      → ((before : List (State Machine Memory Place Form)) (line : BookLine) (state : State Machine Memory Place Form)
+  module _ (P : ℕ → State Machine Memory Place Form → Type 0)
+      (next : (before : List (State Machine Memory Place Form)) (line : BookLine) (state : State Machine Memory Place Form)
       → ((i : ℕ) (s : State Machine Memory Place Form) → slice_get before i ≡ Some s → P i s)
-      → Tells rules program before line state → P (length before) state)
-      → (before : List (State Machine Memory Place Form)) (lines : List BookLine)
-      (states : List (State Machine Memory Place Form)) → Continues rules program before lines states
-      → ((i : ℕ) (s : State Machine Memory Place Form) → slice_get before i ≡ Some s → P i s)
-      → (i : ℕ) (s : State Machine Memory Place Form) → slice_get states i ≡ Some s → P i s
-  along P next before [] states so all i s at = all i s (rw (← so) at)
-  along P next before (line ∷ lines) states so all i s at =
-      along P next (before ++ so.0 ∷ []) lines states so.2
-      (last_item_or P before so.0 all (next before line so.0 all so.1)) i s at
+      → Tells rules program before line state → P (length before) state) where
+    along : (before : List (State Machine Memory Place Form)) (lines : List BookLine)
+        (states : List (State Machine Memory Place Form)) → Continues rules program before lines states
+        → ((i : ℕ) (s : State Machine Memory Place Form) → slice_get before i ≡ Some s → P i s)
+        → (i : ℕ) (s : State Machine Memory Place Form) → slice_get states i ≡ Some s → P i s
+    along before [] states so all i s at = all i s (rw (← so) at)
+    along before (line ∷ lines) states so all i s at =
+        along (before ++ so.0 ∷ []) lines states so.2
+        (last_item_or P before so.0 all (next before line so.0 all so.1)) i s at
 
-  pub only_start : (P : ℕ → State Machine Memory Place Form → Type 0) (first : State Machine Memory Place Form)
-      → P 0 first → (i : ℕ) (s : State Machine Memory Place Form) → slice_get (first ∷ []) i ≡ Some s → P i s
-  only_start P first h = last_item_or P [] first (λ i s at. absurd cc) h
+    pub holds_of_each : P 0 (start rules program) → (lines : List BookLine)
+        (states : List (State Machine Memory Place Form)) → AreReplayed rules program lines states
+        → (i : ℕ) (s : State Machine Memory Place Form) → slice_get states i ≡ Some s → P i s
+    holds_of_each first lines states so =
+        along (start rules program ∷ []) lines states so.1
+        (last_item_or P [] (start rules program) (λ i s at. absurd cc) first)
 
   -- the first states stay where they are
   pub front : (before : List (State Machine Memory Place Form)) (lines : List BookLine)
@@ -101,52 +97,56 @@ module _ {Machine Memory Place Form : Type 0} (rules : Rules Memory Place) (prog
       → AreReplayed rules program lines states → length states ≡ length lines + 1
   count_states lines states so = omega (arith, count_from (start rules program ∷ []) lines states so.1)
 
-  pub count_labels : (label_of : State Machine Memory Place Form → List ℕ) (lines : List BookLine)
-      (labels : List (List ℕ)) → AreLabelsOf rules program label_of lines labels → length labels ≡ length lines + 1
-  count_labels label_of lines labels so =
-      ap length so.labelled ∙ length-map so.states label_of ∙ count_states lines so.states so.replayed
+module _ {Machine Memory Place Form : Type 0} {rules : Rules Memory Place} {program : Program}
+    (lawful : AreLawful rules) (limits : IsWithinLimits program) where
+  pub machine : IsMachine (machine_of {Machine = Machine} {Form = Form} rules program)
+  machine = is_machine rules program lawful limits
 
-  module _ (lawful : AreLawful rules) (limits : IsWithinLimits program) where
-    machine : IsMachine (machine_of {Machine = Machine} {Form = Form} rules program)
-    machine = is_machine rules program lawful limits
+  module _ (lines : List BookLine) (states : List (State Machine Memory Place Form))
+      (so : AreReplayed rules program lines states) where
+    -- each state fits, and has no more steps than its index
+    pub each_fits : (i : ℕ) (s : State Machine Memory Place Form) → slice_get states i ≡ Some s → Fits rules program s
+    each_fits =
+        holds_of_each rules program (λ _ s. Fits rules program s) (λ before line state all tells.
+        let reached : Reaches rules program before line state = tells.0 in
+        machine.step_fits reached.parent state line.thread (all line.parent reached.parent reached.at) reached.step)
+        machine.start_fits lines states so
 
-    module _ (lines : List BookLine) (states : List (State Machine Memory Place Form))
-        (so : AreReplayed rules program lines states) where
-      -- each state fits, and has no more steps than its index
-      pub each_fits : (i : ℕ) (s : State Machine Memory Place Form) → slice_get states i ≡ Some s → Fits rules program s
-      each_fits =
-          along (λ _ s. Fits rules program s) (λ before line state all tells.
-          let reached : Reaches rules program before line state = tells.0 in
-          machine.step_fits reached.parent state line.thread (all line.parent reached.parent reached.at) reached.step)
-          (start rules program ∷ []) lines states so.1
-          (only_start (λ _ s. Fits rules program s) (start rules program) machine.start_fits)
-
-      pub steps_bounded : (i : ℕ) (s : State Machine Memory Place Form) → slice_get states i ≡ Some s → s.steps ≤ i
-      steps_bounded =
-          along (λ i s. s.steps ≤ i) (λ before line state all tells.
-          let reached : Reaches rules program before line state = tells.0 in
-          omega (
-            arith,
-            step_counts rules program reached.parent state line.thread reached.step,
-            all line.parent reached.parent reached.at,
-            slice_get_within before line.parent reached.parent reached.at,
-          ))
-          (start rules program ∷ []) lines states so.1
-          (only_start (λ i s. s.steps ≤ i) (start rules program) (omega arith))
+    pub steps_bounded : (i : ℕ) (s : State Machine Memory Place Form) → slice_get states i ≡ Some s → s.steps ≤ i
+    steps_bounded =
+        holds_of_each rules program (λ i s. s.steps ≤ i) (λ before line state all tells.
+        let reached : Reaches rules program before line state = tells.0 in
+        omega (
+          arith,
+          step_counts rules program reached.parent state line.thread reached.step,
+          all line.parent reached.parent reached.at,
+          slice_get_within before line.parent reached.parent reached.at,
+        ))
+        (omega arith) lines states so
 
     -- the start is one of the states that lines describe
     pub begins : (form_of : Memory → List (Option Place) → Form) → AreFormsExact rules form_of
-        → (lines : List BookLine) (states : List (State Machine Memory Place Form))
-        → AreReplayed rules program lines states → IsAlikeToOneOf (AreStatesAlike rules) states (start rules program)
-    begins form_of forms lines states so = (
+        → IsAlikeToOneOf (AreStatesAlike rules) states (start rules program)
+    begins form_of forms = (
       0,
       start rules program,
-      front (start rules program ∷ []) lines states so.1 0 (start rules program) refl,
+      front rules program (start rules program ∷ []) lines states so.1 0 (start rules program) refl,
       alike_itself rules form_of forms program (start rules program) machine.start_fits,
     )
 
-module _ {Machine Memory Place Form : Type 0} (rules : Rules Memory Place) (program : Program)
-    (label_of : State Machine Memory Place Form → List ℕ) where
+module _ {Machine Memory Place Form : Type 0} {rules : Rules Memory Place} {program : Program}
+    {label_of : State Machine Memory Place Form → List ℕ} where
+  pub count_labels : {lines : List BookLine} {labels : List (List ℕ)} → AreLabelsOf rules program label_of lines labels
+      → length labels ≡ length lines + 1
+  count_labels {lines} so =
+      ap length so.labelled ∙ length-map so.states label_of ∙ count_states rules program lines so.states so.replayed
+
+  -- and as many as states
+  pub same_count : {lines : List BookLine} {labels : List (List ℕ)} → AreLabelsOf rules program label_of lines labels
+      → (states : List (State Machine Memory Place Form)) → AreReplayed rules program lines states
+      → length labels ≡ length states
+  same_count {lines} kept states so = count_labels kept ∙ sym (count_states rules program lines states so)
+
   -- the label of the start
   pub labels_start : (first : State Machine Memory Place Form) (label : List ℕ) (labels : List (List ℕ))
       → first ≡ start rules program → IsShown rules program first [] → label ≡ label_of first
@@ -157,8 +157,9 @@ module _ {Machine Memory Place Form : Type 0} (rules : Rules Memory Place) (prog
     labelled = made ∙ (λ j. same j ∷ []);
   }
 
-  module _ (lines : List BookLine) (labels : List (List ℕ)) (i : ℕ) (line : BookLine) (less : i < length lines)
-      (is : line ≡ get_or lines i line) (so : AreLabelsOf rules program label_of (take i lines) labels) where
+  module _ (lines : List BookLine) (i : ℕ) (line : BookLine) (less : i < length lines)
+      (is : line ≡ get_or lines i line) {labels : List (List ℕ)}
+      (so : AreLabelsOf rules program label_of (take i lines) labels) where
     -- one more line
     pub labels_next : (label : List ℕ) (longer : List (List ℕ))
         → ((states : List (State Machine Memory Place Form)) → AreReplayed rules program (take i lines) states
@@ -179,30 +180,16 @@ module _ {Machine Memory Place Form : Type 0} (rules : Rules Memory Place) (prog
         }
 
     -- what is amiss with it
-    pub amiss_of_next : (fault : CheckFault) → (fault ≡ OutOfMemory)
-        ⊎ ((states : List (State Machine Memory Place Form)) → AreReplayed rules program (take i lines) states
+    pub amiss_of_next : (fault : CheckFault)
+        → ((states : List (State Machine Memory Place Form)) → AreReplayed rules program (take i lines) states
         → IsAmiss rules program states line fault)
-        → (fault ≡ OutOfMemory) ⊎ IsFirstAmiss Machine Form rules program lines fault
-    amiss_of_next fault (inl l) = inl l
-    amiss_of_next fault (inr r) = inr (inr (
+        → IsFirstAmiss Machine Form rules program lines fault
+    amiss_of_next fault amiss = inr (
       so.replayed.0,
-      rw (split_at lines i line less is)
-          (amiss_next rules program (start rules program ∷ []) (take i lines) line (drop (i + 1) lines) so.states
-          fault so.replayed.1 (r so.states so.replayed)),
-    ))
+      rw (split_at lines i line line less (sym is)) (amiss_next rules program (start rules program ∷ []) (take i lines)
+          line (drop (i + 1) lines) so.states fault so.replayed.1 (amiss so.states so.replayed)),
+    )
 
--- the labels of the first lines are fewer than a file may have
-pub labels_bounded : {Machine Memory Place Form : Type 0} (rules : Rules Memory Place) (program : Program)
-    (label_of : State Machine Memory Place Form → List ℕ) (lines : List BookLine) (labels : List (List ℕ)) (i : ℕ)
-    → AreLabelsOf rules program label_of (take i lines) labels → i < length lines → length lines < 2000000
-    → length labels < 2000000
-labels_bounded rules program label_of lines labels i so less most =
-    omega (arith, count_labels rules program label_of (take i lines) labels so, length-take-le i lines (omega arith))
-
--- what is amiss with the start
-pub amiss_at_start : {Machine Memory Place Form : Type 0} (rules : Rules Memory Place) (program : Program)
-    (lines : List BookLine) (first : State Machine Memory Place Form) (fault : CheckFault)
-    → first ≡ start rules program → (fault ≡ OutOfMemory) ⊎ IsUnshown rules program first [] 2 fault
-    → (fault ≡ OutOfMemory) ⊎ IsFirstAmiss Machine Form rules program lines fault
-amiss_at_start rules program lines first fault is (inl l) = inl l
-amiss_at_start rules program lines first fault is (inr r) = inr (inl (rw is at r))
+    -- the labels of the first lines are fewer than a file may have
+    pub labels_bounded : length lines < 2000000 → length labels < 2000000
+    labels_bounded most = omega (arith, count_labels so, length-take-le i lines (omega arith))

@@ -1,7 +1,7 @@
 -- A list is cut in one way only at its first element that fails a test.
-use Rattle.std.proofs.Common.{◌≡◌, ◌≢◌, ℕ, ◌+◌, ◌-◌, ◌<◌, List, [], ◌∷◌, ◌++◌, ◌∙◌, length, get_or, take, drop, refl}
+use Rattle.std.proofs.Common.{◌≡◌, ◌≢◌, ℕ, ◌+◌, ◌<◌, List, [], ◌∷◌, ◌++◌, ◌∙◌, length, get_or, take, drop, refl}
 use Rattle.std.proofs.Common.{sym, ap}
-use Rattle.std.proofs.lemmas.List.{take_more, drop_more, take_rest, take-append-drop, append_assoc}
+use Rattle.std.proofs.lemmas.List.{take_more, drop_more, take-append-drop, append_assoc}
 use Rattle.std.specs.List.{AllByRecursion}
 use Rattle.replay.specs.Text.Files.{ended, AreLines}
 
@@ -64,10 +64,9 @@ all_more P xs i d less all here =
     rw (take_more xs i d less) (all_append P (take i xs) (get_or xs i d ∷ []) all (here, tt))
 
 -- a list is what comes before an element, that element, and what follows it
-pub cut_at : (bytes : List ℕ) (i at : ℕ) → i < length bytes → get_or bytes i 0 ≡ at
-    → bytes ≡ take i bytes ++ at ∷ take (length bytes - (i + 1)) (drop (i + 1) bytes)
-cut_at bytes i at less is =
-    rw (take_rest bytes (i + 1), ← is, ← drop_more bytes i 0 less) (sym (take-append-drop i bytes))
+pub split_at : {X : Type 0} (xs : List X) (i : ℕ) (x d : X) → i < length xs → get_or xs i d ≡ x
+    → xs ≡ take i xs ++ x ∷ drop (i + 1) xs
+split_at xs i x d less is = rw (← is, ← drop_more xs i d less) (sym (take-append-drop i xs))
 
 -- the first of some lines, and those after it
 abbrev pub NextLine : List ℕ → List ℕ → List (List ℕ) → Type 0

@@ -6,7 +6,7 @@ use Rattle.std.specs.List.{AllByRecursion, AllZip}
 use Rattle.indexmap.proofs.SetLemmas.{AllZip-push}
 use Rattle.replay.specs.declared.file.fault.CheckFault.TheVariants.{Form}
 use Rattle.replay.specs.declared.file.line.BookLine.{BookLine}
-use Rattle.replay.specs.Text.Files.{AreLines, IsNumber, IsOrder, IsEntryLine, IsEntryText, IsEntriesFault}
+use Rattle.replay.specs.Text.Files.{AreLines, IsEntryLine, IsEntryText, IsEntriesFault}
 use Rattle.replay.proofs.Text.Cuts.{same_cut, no_cut, next_line, no_line}
 use Rattle.replay.proofs.Text.OneReading.{digits_bare, space_fails, entries_formed}
 
@@ -17,35 +17,14 @@ no_pieces text none (line, is) =
 
 -- what comes before the first space of an entry's line is the parent's number, and what follows are the thread and the
 -- order
-entry_pieces : (text parent rest : List ℕ) (line : BookLine) → text ≡ parent ++ 32 ∷ rest
+pub entry_pieces : {text parent rest : List ℕ} {line : BookLine} → text ≡ parent ++ 32 ∷ rest
     → AllByRecursion (λ b. b ≢ 32) parent → (is : IsEntryLine text line)
     → (is.parent ≡ parent) × (rest ≡ (48 + line.thread) ∷ 32 ∷ is.order)
-entry_pieces text parent rest line e none is =
+entry_pieces {text} {parent} {rest} {line} e none is =
     let same =
     same_cut (λ b. b ≢ 32) is.parent 32 ((48 + line.thread) ∷ 32 ∷ is.order) parent 32 rest (sym is.whole ∙ e)
     (digits_bare 32 (omega arith) is.parent is.is_number.digits.1) space_fails none space_fails in
     (same.0, sym same.2)
-
-pub no_parent : (text parent rest : List ℕ) → text ≡ parent ++ 32 ∷ rest → AllByRecursion (λ b. b ≢ 32) parent
-    → ((number : ℕ) → ¬ IsNumber parent number)
-    → ¬ IsEntryText text
-no_parent text parent rest e none not (line, is) =
-    let pieces = entry_pieces text parent rest line e none is in
-    not is.number (rw pieces.0 at is.is_number)
-
-pub no_thread : (text parent rest : List ℕ) → text ≡ parent ++ 32 ∷ rest → AllByRecursion (λ b. b ≢ 32) parent
-    → ((thread : ℕ) (order : List ℕ) → thread < 10 → rest ≢ (48 + thread) ∷ 32 ∷ order) → ¬ IsEntryText text
-no_thread text parent rest e none not (line, is) =
-    let pieces = entry_pieces text parent rest line e none is in
-    not line.thread is.order is.thread pieces.1
-
-pub no_order : (text parent rest : List ℕ) (thread : ℕ) (order : List ℕ) → text ≡ parent ++ 32 ∷ rest
-    → AllByRecursion (λ b. b ≢ 32) parent
-    → rest ≡ (48 + thread) ∷ 32 ∷ order → ((names : _) → ¬ IsOrder order names) → ¬ IsEntryText text
-no_order text parent rest thread order e none split not (line, is) =
-    let pieces = entry_pieces text parent rest line e none is in
-    let same : is.order ≡ order = cc (pieces.1) in
-    not line.order (rw same at is.is_order)
 
 -- the bytes are lines: first those of these entries, and then the rest
 pub record HasReadLines (bytes : List ℕ) (lines : List BookLine) (rest : List ℕ) : Type 0 where

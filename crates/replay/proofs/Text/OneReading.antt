@@ -8,7 +8,8 @@ use Rattle.std.specs.Str.Parse.{AllDigits}
 use Rattle.sched_program.specs.declared.operation.OpId.{OpId}
 use Rattle.replay.specs.declared.file.line.BookLine.{BookLine}
 use Rattle.replay.specs.Text.Files.{IsNumber, commaed, order_text, IsEntryLine, start_text, IsBookText, HasHead}
-use Rattle.replay.specs.Text.Files.{IsEntryText, IsStartMisformed, IsEntryMisformed, IsFirstMisformed}
+use Rattle.replay.specs.Text.Files.{IsEntryText, IsEntryMisformed, IsFirstMisformed}
+use Rattle.replay.proofs.Either.{AtMostOne, one_of_either}
 use Rattle.replay.proofs.Text.Cuts.{no_cut, same_cut, same_lines}
 
 -- no digit is a byte below 48, as a space or a line feed
@@ -31,12 +32,11 @@ same_id a b e f =
 
 same_commaed : (ids others : List OpId) → commaed ids ≡ commaed others → ids ≡ others
 same_commaed [] [] e = refl
-same_commaed [] (other ∷ others) e = cc
-same_commaed (id ∷ ids) [] e = cc
 same_commaed (id ∷ ids) (other ∷ others) e =
     let first = same_id id other (cc) (cc) in
     let rest = same_commaed ids others (cc) in
     cc
+same_commaed _ _ e = cc
 
 -- a text is that of one order
 pub same_order : (ids others : List OpId) → order_text ids ≡ order_text others → ids ≡ others
@@ -57,8 +57,8 @@ same_entry_line text line other is also =
     ((48 + other.thread) ∷ 32 ∷ also.order)
     (sym is.whole ∙ also.whole) (digits_bare 32 (omega arith) is.parent is.is_number.digits.1) space_fails
     (digits_bare 32 (omega arith) also.parent also.is_number.digits.1) space_fails in
-    let numbers = same_number also.parent is.number also.number (rw cut.0 at is.is_number) also.is_number in
-    let parents : line.parent ≡ other.parent = cc (numbers, is.counted, also.counted) in
+    let number : is.number ≡ also.number = cc (cut.0, is.is_number.value, also.is_number.value) in
+    let parents : line.parent ≡ other.parent = cc (number, is.counted, also.counted) in
     let digits : 48 + line.thread ≡ 48 + other.thread = cc (cut.2) in
     let threads : line.thread ≡ other.thread = omega arith in
     let orders = same_order line.order other.order (cc (cut.2, is.is_order.whole, also.is_order.whole)) in
@@ -67,12 +67,9 @@ same_entry_line text line other is also =
 pub same_entries : (texts : List (List ℕ)) (lines others : List BookLine) → AllZip IsEntryLine texts lines
     → AllZip IsEntryLine texts others → lines ≡ others
 same_entries [] [] [] are also = refl
-same_entries [] [] (other ∷ others) are also = absurd also
-same_entries [] (line ∷ lines) others are also = absurd are
-same_entries (text ∷ texts) [] others are also = absurd are
-same_entries (text ∷ texts) (line ∷ lines) [] are also = absurd also
 same_entries (text ∷ texts) (line ∷ lines) (other ∷ others) are also =
     cc (same_entry_line text line other are.0 also.0, same_entries texts lines others are.1 also.1)
+same_entries _ _ _ are also = search
 
 -- the texts after the head are determined
 pub same_texts : (bytes : List ℕ) (texts others : List (List ℕ)) → HasHead bytes texts → HasHead bytes others
@@ -111,11 +108,7 @@ not_both bytes lines number is (inr (inr entry)) =
     no_cut IsEntryText is.texts entry.earlier entry.text entry.later texts
     (entries_formed is.texts lines is.each) entry.misformed
 
-start_or_entry : (bytes : List ℕ) (m n : ℕ) → IsStartMisformed bytes m → ¬ IsEntryMisformed bytes n
-start_or_entry bytes m n start entry =
-    start.misformed (cc (same_texts bytes _ _ start.has_head entry.has_head))
-
-entry_or_entry : (bytes : List ℕ) (m n : ℕ) → IsEntryMisformed bytes m → IsEntryMisformed bytes n → m ≡ n
+entry_or_entry : (bytes : List ℕ) → AtMostOne (IsEntryMisformed bytes)
 entry_or_entry bytes m n entry other =
     let texts : entry.earlier ++ entry.text ∷ entry.later ≡ other.earlier ++ other.text ∷ other.later =
     cc (same_texts bytes _ _ entry.has_head other.has_head) in
@@ -124,13 +117,12 @@ entry_or_entry bytes m n entry other =
     cc (cut.0)
 
 -- one line at most is the first that is not in the form
-pub same_misformed : (bytes : List ℕ) (m n : ℕ) → IsFirstMisformed bytes m → IsFirstMisformed bytes n → m ≡ n
-same_misformed bytes m n (inl head) (inl other) = head.place ∙ sym other.place
-same_misformed bytes m n (inl head) (inr (inl start)) = absurd (head.misformed _ start.has_head)
-same_misformed bytes m n (inl head) (inr (inr entry)) = absurd (head.misformed _ entry.has_head)
-same_misformed bytes m n (inr (inl start)) (inl head) = absurd (head.misformed _ start.has_head)
-same_misformed bytes m n (inr (inr entry)) (inl head) = absurd (head.misformed _ entry.has_head)
-same_misformed bytes m n (inr (inl start)) (inr (inl other)) = start.place ∙ sym other.place
-same_misformed bytes m n (inr (inl start)) (inr (inr entry)) = absurd (start_or_entry bytes m n start entry)
-same_misformed bytes m n (inr (inr entry)) (inr (inl start)) = absurd (start_or_entry bytes n m start entry)
-same_misformed bytes m n (inr (inr entry)) (inr (inr other)) = entry_or_entry bytes m n entry other
+pub same_misformed : (bytes : List ℕ) → AtMostOne (IsFirstMisformed bytes)
+same_misformed bytes =
+    one_of_either (λ m n head other. head.place ∙ sym other.place)
+    (one_of_either (λ m n start other. start.place ∙ sym other.place) (entry_or_entry bytes)
+    (λ m n start entry. start.misformed (cc (same_texts bytes _ _ start.has_head entry.has_head))))
+    (λ m n head other. elim other [
+      | inl start ↦ head.misformed _ start.has_head
+      | inr entry ↦ head.misformed _ entry.has_head
+    ])

@@ -1,11 +1,15 @@
 -- What is kept of the entries of a book file, and the states that stand in for theirs.
-use Rattle.std.specs.Prelude.{◌≡◌, ℕ, ◌≤◌, Some, List, Contains, map, slice_get}
+use Rattle.std.specs.Prelude.{◌≡◌, ℕ, ◌≤◌, Option, Some, List, Contains, IfSome, IsSomeAnd, map, slice_get}
 use Rattle.sched_program.specs.Program.{Program}
+use Rattle.tree_machine.specs.Offsets.{AreOffsetsOf}
 use Rattle.tree_machine.specs.Rules.{Rules}
 use Rattle.tree_machine.specs.Alike.{AreStatesAlike}
 use Rattle.tree_machine.specs.Step.{step, Fits}
+use Rattle.tree_machine.specs.declared.code_offsets.CodeOffsets.{CodeOffsets}
+use Rattle.tree_machine.specs.declared.front.Front.{Front}
 use Rattle.tree_machine.specs.declared.state.State.{State}
 use Rattle.replay.specs.declared.file.line.BookLine.{BookLine}
+use Rattle.replay.specs.declared.file.replayer.Source.{Source}
 use Rattle.replay.specs.BookFile.Replays.{AreReplayed}
 
 module _ {Machine Memory Place Form : Type 0} (rules : Rules Memory Place) (program : Program) where
@@ -39,3 +43,20 @@ module _ {Machine Memory Place Form : Type 0} (rules : Rules Memory Place) (prog
     abbrev pub IsStepUnknown : Type 0
     IsStepUnknown = (t : ℕ) × (next : State Machine Memory Place Form) × (step rules program state t ≡ Some next)
         × (Contains labels (label_of next) → ⊥)
+
+-- the state was decoded from the label of this entry, if there is one, whose parts begin at these offsets
+abbrev pub IsSource : {Machine Memory Place Form : Type 0} → (Front → Memory → List ℕ)
+    → (Front → Memory → List (Option Place) → List ℕ) → List (List ℕ) → Option Source
+    → State Machine Memory Place Form → Type 0
+IsSource front_code behind_code labels source state =
+    IfSome source (λ source. (label : List ℕ) × (slice_get labels source.index ≡ Some label)
+    × AreOffsetsOf front_code behind_code label source.offsets state)
+
+-- there is one, with this index
+abbrev pub IsSourceAt : ℕ → Option Source → Type 0
+IsSourceAt index source = IsSomeAnd source (λ source. source.index ≡ index)
+
+-- there is one, with this label and these offsets
+abbrev pub HasCode : List (List ℕ) → Option Source → List ℕ → CodeOffsets → Type 0
+HasCode labels source label offsets =
+    IsSomeAnd source (λ source. (slice_get labels source.index ≡ Some label) × (offsets ≡ source.offsets))

@@ -1,8 +1,9 @@
 //! Whether the bytes of a book file pass.
-ghost use Rattle.std.specs.Prelude.{◌≡◌, ◌≢◌, ℕ, ◌+◌, ◌⊎◌, IfOk, IfErr, length};
+ghost use Rattle.std.specs.Prelude.{◌≡◌, ◌≢◌, ℕ, ◌+◌, ◌<◌, ◌⊎◌, IfOk, IfErr, None, length};
+ghost use Rattle.tree_machine.specs.Step.{start, Fits};
 ghost use Rattle.replay.specs.Correct.{HoldsAlways};
 ghost use Rattle.replay.specs.declared.file.fault.CheckFault.{CheckFault};
-ghost use Rattle.replay.specs.BookFile.Checks.{IsRefusedFor, PassAs};
+ghost use Rattle.replay.specs.BookFile.Checks.{AreRefused, IsRefusedFor, Pass, PassAs};
 
 use crate::file::closing::test_closed;
 use crate::file::fault::CheckFault;
@@ -15,8 +16,39 @@ use sched_program::Program;
 use std::alloc::Global;
 use tree_machine::Encode;
 
-/// The lines after the second of a book file whose bytes pass: each states the step of an earlier entry, and its order
+/// Whether the lines pass, with a replayer that has the start's state.
+fn replay_and_close<M: Encode>(
+    alloc: Global,
+    input: &Input<'_, M>,
+    replayer: &mut Replayer<M>,
+) -> Result<(), CheckFault>
+    requires bounded { length input.now.lines.now < 2000000 }
+    requires start { replayer.old.state ≡ start (M.rules input.now.machine) input.now.program.now }
+    requires fits { Fits (M.rules input.now.machine) input.now.program.now replayer.old.state }
+    requires source { replayer.old.source ≡ None }
+    ensures pass { IfOk result
+        (λ _. Pass M M.Form (M.rules input.now.machine) input.now.program.now input.now.lines.now) }
+    ensures refused { IfErr result (λ fault. (fault ≡ CheckFault.OutOfMemory)
+        ⊎ AreRefused M M.Form (M.rules input.now.machine) input.now.program.now input.now.lines.now fault) }
+{
+    let labels = replay_lines(alloc, input, replayer)?;
+    test_closed(alloc, input, &labels, replayer)
+}
+
+/// Whether the lines after the second of a book file pass: each states the step of an earlier entry, and its order
 /// shows that the state reached is correct; and each step of an entry reaches a state that is alike to some entry's.
+fn check_lines<M: Encode>(alloc: Global, input: &Input<'_, M>) -> Result<(), CheckFault>
+    requires { length input.now.lines.now < 2000000 }
+    ensures pass { IfOk result
+        (λ _. Pass M M.Form (M.rules input.now.machine) input.now.program.now input.now.lines.now) }
+    ensures refused { IfErr result (λ fault. (fault ≡ CheckFault.OutOfMemory)
+        ⊎ AreRefused M M.Form (M.rules input.now.machine) input.now.program.now input.now.lines.now fault) }
+{
+    let mut replayer = Replayer::new(alloc, input.machine, input.program)?;
+    replay_and_close(alloc, input, &mut replayer)
+}
+
+/// The lines after the second of a book file whose bytes pass.
 fn lines_checked<M: Encode>(
     alloc: Global,
     machine: M,
@@ -34,9 +66,7 @@ fn lines_checked<M: Encode>(
         program,
         lines: lines.as_slice(),
     };
-    let mut replayer = Replayer::new(alloc, machine, program)?;
-    let labels = replay_lines(alloc, &input, &mut replayer)?;
-    test_closed(alloc, &input, &labels, &mut replayer)?;
+    check_lines(alloc, &input)?;
     Ok(lines)
 }
 

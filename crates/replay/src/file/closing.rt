@@ -4,7 +4,7 @@ ghost use Rattle.std.specs.Prelude.{IsTrue, Some, slice_get};
 ghost use Rattle.tree_machine.specs.Step.{Fits, step};
 ghost use Rattle.tree_machine.specs.declared.state.State.{State};
 ghost use Rattle.replay.specs.BookFile.Checks.{AreRefused, Pass};
-ghost use Rattle.replay.specs.BookFile.Kept.{AreLabelsOf, AreStepsKnown, IsStepUnknown, StandsForEntry};
+ghost use Rattle.replay.specs.BookFile.Kept.{AreLabelsOf, AreStepsKnown, IsSource, IsStepUnknown, StandsForEntry};
 ghost use Rattle.replay.specs.Labels.{named_by};
 ghost use Rattle.replay.specs.declared.file.line.BookLine.{BookLine};
 
@@ -17,7 +17,7 @@ use sched_program::OutOfMemory;
 use std::alloc::Global;
 use std::mem::replace;
 use std::snapshot::Snapshot;
-use tree_machine::{Encode, Naming, StepFault};
+use tree_machine::{Encode, StepFault};
 
 /// Whether the step of a thread, if it is enabled, has one of the labels. The step is made in the state itself, and
 /// taken back.
@@ -28,6 +28,9 @@ fn knows_step<M: Encode>(
     thread: u8,
     replayer: &mut Replayer<M>,
 ) -> Result<bool, OutOfMemory>
+    requires kept { AreLabelsOf {Machine = M} (M.rules input.now.machine) input.now.program.now
+        (named_by M.form_code (M.form_of input.now.machine)) input.now.lines.now labels.now }
+    requires source { IsSource M.front_code M.behind_code labels.now replayer.old.source replayer.old.state }
     requires fits { Fits (M.rules input.now.machine) input.now.program.now replayer.old.state }
     requires steps_fit { replayer.old.state.steps + 1 < 2 ^ 64 }
     ensures known { IfOk result (λ yes. yes ≡ true → (next : State M M.Mem M.Loc M.Form)
@@ -37,26 +40,20 @@ fn knows_step<M: Encode>(
         × (step (M.rules input.now.machine) input.now.program.now replayer.old.state thread ≡ Some next)
         × (Contains labels.now (named_by M.form_code (M.form_of input.now.machine) next) → ⊥)) }
     ensures state { OnOk result (replayer.new.state ≡ replayer.old.state) }
+    ensures source { OnOk result (replayer.new.source ≡ replayer.old.source) }
 {
     // Whoever reads a program knows that it meets the limits.
     let _ = input.program.initial();
-    let machine = input.machine;
-    let state = &mut replayer.state;
-    let source = Snapshot::of(&*state);
-    match state.step_here(alloc, machine, input.program, thread, &mut replayer.undo) {
+    let source = Snapshot::of(&replayer.state);
+    let undo = &mut replayer.undo;
+    match replayer.state.step_here(alloc, input.machine, input.program, thread, undo) {
         Ok(()) => {}
         Err(StepFault::NotEnabled) => return Ok(true),
         Err(StepFault::OutOfMemory) => return Err(OutOfMemory),
     }
     let spare = replace(&mut replayer.spare, Vec::new(alloc));
-    let label = state.label(
-        alloc,
-        machine,
-        Naming::Canonical,
-        &mut replayer.buffer,
-        spare,
-    )?;
-    state.take_back(&source, thread, &mut replayer.undo);
+    let label = replayer.label_of_step(alloc, input, labels, &source, thread, spare)?;
+    replayer.state.take_back(&source, thread, &mut replayer.undo);
     let is_known = labels.contains(&label);
     replayer.spare = label.into_vec();
     Ok(is_known)
@@ -88,12 +85,15 @@ fn leads_out<M: Encode>(
         (named_by M.form_code (M.form_of input.now.machine)) input.now.lines.now labels.now }
     requires bounded { length input.now.lines.now < 2000000 }
     requires within { index < length labels.now }
+    requires source { IsSource M.front_code M.behind_code labels.now replayer.old.source replayer.old.state }
     requires stands { StandsForEntry (M.rules input.now.machine) input.now.program.now input.now.lines.now index
         replayer.old.state }
     ensures out { IfOk result (λ yes. yes ≡ true → IsStepUnknown (M.rules input.now.machine) input.now.program.now
         (named_by M.form_code (M.form_of input.now.machine)) labels.now replayer.old.state) }
     ensures none { IfOk result (λ yes. yes ≡ false → AreStepsKnown (M.rules input.now.machine) input.now.program.now
         (named_by M.form_code (M.form_of input.now.machine)) labels.now replayer.old.state) }
+    ensures source { OnOk result
+        (IsSource M.front_code M.behind_code labels.now replayer.new.source replayer.new.state) }
 {
     for thread in 0..input.program.threads().len() as u8 {
         if has_step(input.lines, *next, index, thread) {
@@ -118,6 +118,7 @@ pub fn test_closed<M: Encode>(
     requires kept { AreLabelsOf {Machine = M} (M.rules input.now.machine) input.now.program.now
         (named_by M.form_code (M.form_of input.now.machine)) input.now.lines.now labels.now }
     requires bounded { length input.now.lines.now < 2000000 }
+    requires source { IsSource M.front_code M.behind_code labels.now replayer.old.source replayer.old.state }
     ensures pass { IfOk result
         (λ _. Pass M M.Form (M.rules input.now.machine) input.now.program.now input.now.lines.now) }
     ensures refused { IfErr result (λ fault. (fault ≡ CheckFault.OutOfMemory)
@@ -127,7 +128,7 @@ pub fn test_closed<M: Encode>(
     let _ = input.program.initial();
     let mut next = 0;
     for i in 0..labels.len() {
-        recall(alloc, input, labels, i, &mut replayer.state)?;
+        recall(alloc, input, labels, i, replayer)?;
         if leads_out(alloc, input, labels, i, &mut next, replayer)? {
             return Err(CheckFault::Open(i + 2));
         }

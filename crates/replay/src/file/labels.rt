@@ -1,12 +1,14 @@
 //! The labels of the entries of a book file.
 ghost use Rattle.std.specs.Prelude.{◌≡◌, ◌<◌, ◌↔◌, [], ◌∷◌, ◌++◌, length, Contains, IfSome, IsTrue, OnOk, Some};
 ghost use Rattle.std.specs.Prelude.{slice_get};
+ghost use Rattle.replay.specs.BookFile.Kept.{HasCode};
 
+use crate::file::replayer::Source;
 use indexmap::IndexSet;
 use sched_program::OutOfMemory;
 use std::alloc::Global;
 use std::marker::Model;
-use tree_machine::Bytes;
+use tree_machine::{Bytes, CodeOffsets};
 
 /// The labels of entries, in the order of the entries. Equal labels are stored once.
 #[derive(Drop)]
@@ -56,6 +58,15 @@ impl Labels {
         let place = self.places.get(index)?;
         let label = self.distinct.get_index(*place as usize)?;
         Some(label.as_slice())
+    }
+
+    /// The label that a state was decoded from, if it was decoded from one, with where its parts begin.
+    pub fn code_of(&self, source: Option<Source>) -> Option<(&[u8], CodeOffsets)>
+        ensures { IfSome result (λ (label, offsets). HasCode self.now source label.now offsets) }
+    {
+        let source = source?;
+        let label = self.get(source.index)?;
+        Some((label, source.offsets))
     }
 
     /// Whether an entry has this label.

@@ -1,7 +1,7 @@
 //! States that stand in for those of entries.
 ghost use Rattle.std.specs.Prelude.{◌≡◌, ◌<◌, List, Some, length, slice_get, IfOk, OnOk};
 ghost use Rattle.tree_machine.specs.declared.state.State.{State};
-ghost use Rattle.replay.specs.BookFile.Kept.{AreLabelsOf, StandsForEntry};
+ghost use Rattle.replay.specs.BookFile.Kept.{AreLabelsOf, IsSource, StandsForEntry};
 ghost use Rattle.replay.specs.BookFile.Replays.{AreReplayed};
 ghost use Rattle.replay.specs.Findings.{machine_of};
 ghost use Rattle.replay.specs.Labels.{named_by};
@@ -9,10 +9,11 @@ ghost use Rattle.replay.specs.Schedule.{after};
 
 use crate::file::labels::Labels;
 use crate::file::line::BookLine;
+use crate::file::replayer::Replayer;
 use crate::replaying::state_after;
 use sched_program::{OutOfMemory, Program};
 use std::alloc::Global;
-use tree_machine::{Encode, State};
+use tree_machine::Encode;
 
 /// What is checked: the lines of a book file, for a program on a machine.
 #[derive(Clone, Copy)]
@@ -50,30 +51,31 @@ fn way_to<M: Encode>(
     Ok(way)
 }
 
-/// Makes `state` stand in for that of an entry: it is decoded from the entry's label or, if that can't be done,
-/// replayed from the start.
+/// Makes the replayer's state stand in for that of an entry: it is decoded from the entry's label or, if that can't be
+/// done, replayed from the start.
 pub fn recall<M: Encode>(
     alloc: Global,
     input: &Input<'_, M>,
     labels: &Labels,
     index: usize,
-    state: &mut State<M>,
+    replayer: &mut Replayer<M>,
 ) -> Result<(), OutOfMemory>
     requires kept { AreLabelsOf {Machine = M} (M.rules input.now.machine) input.now.program.now
         (named_by M.form_code (M.form_of input.now.machine)) input.now.lines.now labels.now }
     requires within { index < length labels.now }
-    ensures { OnOk result (StandsForEntry (M.rules input.now.machine) input.now.program.now input.now.lines.now index
-        state.new) }
+    requires source { IsSource M.front_code M.behind_code labels.now replayer.old.source replayer.old.state }
+    ensures stands { OnOk result (StandsForEntry (M.rules input.now.machine) input.now.program.now input.now.lines.now
+        index replayer.new.state) }
+    ensures source { OnOk result
+        (IsSource M.front_code M.behind_code labels.now replayer.new.source replayer.new.state) }
 {
     // Whoever reads a program knows that it meets the limits.
     let _ = input.program.initial();
-    if let Some(label) = labels.get(index)
-        && let Some(_) = state.decode(alloc, input.machine, label, None)?
-    {
-        state.decoded_law(input.machine);
+    if replayer.decode(alloc, input.machine, labels, index)? {
+        replayer.state.decoded_law(input.machine);
         return Ok(());
     }
     let way = way_to(alloc, input, labels, index)?;
-    *state = state_after(alloc, input.machine, input.program, way.as_slice())?;
+    replayer.state = state_after(alloc, input.machine, input.program, way.as_slice())?;
     Ok(())
 }

@@ -1,8 +1,8 @@
 //! The replay of the entries of a book file, line by line.
-ghost use Rattle.std.specs.Prelude.{◌≡◌, ◌<◌, ◌⊎◌, List, length, IfOk, IfErr};
-ghost use Rattle.tree_machine.specs.Step.{Fits};
+ghost use Rattle.std.specs.Prelude.{◌≡◌, ◌<◌, ◌⊎◌, [], List, None, length, IfOk, IfErr, OnOk};
+ghost use Rattle.tree_machine.specs.Step.{start, Fits};
 ghost use Rattle.tree_machine.specs.declared.state.State.{State};
-ghost use Rattle.replay.specs.BookFile.Kept.{AreLabelsOf};
+ghost use Rattle.replay.specs.BookFile.Kept.{AreLabelsOf, IsSource};
 ghost use Rattle.replay.specs.BookFile.Replays.{AreReplayed, IsAmiss, IsFirstAmiss, IsShown, IsUnshown, Tells};
 ghost use Rattle.replay.specs.Labels.{named_by};
 
@@ -14,6 +14,7 @@ use crate::file::replayer::Replayer;
 use lin::check_order;
 use sched_program::{OpId, Program};
 use std::alloc::Global;
+use std::snapshot::Snapshot;
 use tree_machine::{Bytes, Encode, Naming, State, StepFault};
 
 /// Whether an order shows that a state is correct. `number` is the line of its entry.
@@ -44,7 +45,8 @@ fn test_state<M: Encode>(
     }
 }
 
-/// The label of the entry after these, by its line: its parent's state is recalled, and the step is made there.
+/// The label of the entry after these, by its line: its parent's state is recalled, and the step is made there, and
+/// taken back.
 fn label_of_line<M: Encode>(
     alloc: Global,
     input: &Input<'_, M>,
@@ -55,6 +57,9 @@ fn label_of_line<M: Encode>(
     requires kept { AreLabelsOf {Machine = M} (M.rules input.now.machine) input.now.program.now
         (named_by M.form_code (M.form_of input.now.machine)) input.now.lines.now before.now }
     requires bounded { length before.now < 2000000 }
+    requires source { IsSource M.front_code M.behind_code before.now replayer.old.source replayer.old.state }
+    ensures source { OnOk result
+        (IsSource M.front_code M.behind_code before.now replayer.new.source replayer.new.state) }
     ensures tells { IfOk result (λ label. (states : List (State M M.Mem M.Loc M.Form))
         → AreReplayed (M.rules input.now.machine) input.now.program.now input.now.lines.now states
         → (state : State M M.Mem M.Loc M.Form)
@@ -72,59 +77,71 @@ fn label_of_line<M: Encode>(
     if parent >= before.len() {
         return Err(CheckFault::Parent(number));
     }
-    let state = &mut replayer.state;
-    recall(alloc, input, before, parent, state)?;
-    match state.step_here(
-        alloc,
-        input.machine,
-        input.program,
-        line.thread,
-        &mut replayer.undo,
-    ) {
+    recall(alloc, input, before, parent, replayer)?;
+    let thread = line.thread;
+    let source = Snapshot::of(&replayer.state);
+    let undo = &mut replayer.undo;
+    match replayer.state.step_here(alloc, input.machine, input.program, thread, undo) {
         Ok(()) => {}
         Err(StepFault::NotEnabled) => return Err(CheckFault::Step(number)),
         Err(StepFault::OutOfMemory) => return Err(CheckFault::OutOfMemory),
     }
     let order = line.order.as_slice();
-    test_state(alloc, input.machine, input.program, &*state, order, number)?;
-    let buffer = &mut replayer.buffer;
-    Ok(state.label(
-        alloc,
-        input.machine,
-        Naming::Canonical,
-        buffer,
-        Vec::new(alloc),
-    )?)
+    test_state(alloc, input.machine, input.program, &replayer.state, order, number)?;
+    let spare = Vec::new(alloc);
+    let label = replayer.label_of_step(alloc, input, before, &source, thread, spare)?;
+    replayer.state.take_back(&source, thread, &mut replayer.undo);
+    Ok(label)
 }
 
-/// The labels of the entries, the start's first, replayed one after the other.
+/// The label of the start, which a replayer has.
+fn label_of_start<M: Encode>(
+    alloc: Global,
+    input: &Input<'_, M>,
+    replayer: &mut Replayer<M>,
+) -> Result<Bytes, CheckFault>
+    requires start { replayer.old.state ≡ start (M.rules input.now.machine) input.now.program.now }
+    requires fits { Fits (M.rules input.now.machine) input.now.program.now replayer.old.state }
+    ensures shown { IfOk result
+        (λ _. IsShown (M.rules input.now.machine) input.now.program.now replayer.old.state []) }
+    ensures label { IfOk result (λ label. label
+        ≡ named_by M.form_code (M.form_of input.now.machine) replayer.old.state) }
+    ensures unshown { IfErr result (λ fault. (fault ≡ CheckFault.OutOfMemory)
+        ⊎ IsUnshown (M.rules input.now.machine) input.now.program.now replayer.old.state [] 2 fault) }
+    ensures source { OnOk result (replayer.new.source ≡ replayer.old.source) }
+{
+    // Whoever reads a program knows that it meets the limits.
+    let _ = input.program.initial();
+    let state = &replayer.state;
+    test_state(alloc, input.machine, input.program, state, &[], 2)?;
+    let buffer = &mut replayer.buffer;
+    Ok(state.label(alloc, input.machine, Naming::Canonical, buffer, Vec::new(alloc))?)
+}
+
+/// The labels of the entries, the start's first, replayed one after the other. The replayer has the start's state.
 pub fn replay_lines<M: Encode>(
     alloc: Global,
     input: &Input<'_, M>,
     replayer: &mut Replayer<M>,
 ) -> Result<Labels, CheckFault>
-    requires { length input.now.lines.now < 2000000 }
+    requires bounded { length input.now.lines.now < 2000000 }
+    requires start { replayer.old.state ≡ start (M.rules input.now.machine) input.now.program.now }
+    requires fits { Fits (M.rules input.now.machine) input.now.program.now replayer.old.state }
+    requires source { replayer.old.source ≡ None }
     ensures kept { IfOk result (AreLabelsOf {Machine = M} (M.rules input.now.machine) input.now.program.now
         (named_by M.form_code (M.form_of input.now.machine)) input.now.lines.now) }
+    ensures source { IfOk result (λ labels. IsSource M.front_code M.behind_code labels replayer.new.source
+        replayer.new.state) }
     ensures amiss { IfErr result (λ fault. (fault ≡ CheckFault.OutOfMemory)
         ⊎ IsFirstAmiss M M.Form (M.rules input.now.machine) input.now.program.now input.now.lines.now fault) }
 {
-    // Whoever reads a program knows that it meets the limits.
-    let _ = input.program.initial();
-    let Input {
-        machine,
-        program,
-        ..
-    } = *input;
-    let state = State::start(alloc, machine, program)?;
-    test_state(alloc, machine, program, &state, &[], 2)?;
+    let first = label_of_start(alloc, input, replayer)?;
     let mut labels = Labels::new(alloc);
-    let buffer = &mut replayer.buffer;
-    labels.push(state.label(alloc, machine, Naming::Canonical, buffer, Vec::new(alloc))?)?;
+    labels.push(first)?;
     for (i, line) in input.lines.iter().enumerate() {
         let earlier = Input {
-            machine,
-            program,
+            machine: input.machine,
+            program: input.program,
             lines: &input.lines[..i],
         };
         let next = label_of_line(alloc, &earlier, &labels, line, replayer)?;

@@ -1,7 +1,7 @@
-use Rattle.std.proofs.Common.{◌≡◌, ◌∙◌, length}
+use Rattle.std.proofs.Common.{◌≡◌, ◌∙◌, inl, inr, length}
 use Rattle.std.proofs.lemmas.Result.{err_from_is_err_and}
 use Rattle.replay.proofs.BookFile.Passing.{passing_holds}
-use Rattle.replay.proofs.BookFile.Whole.{passing_bytes, only_of_bytes, refused_bytes}
+use Rattle.replay.proofs.BookFile.Whole.{one_refusal_of_bytes, passing_bytes}
 use Rattle.replay.proofs.file.check.check_book.Goals as goal
 
 pub returns-in_err-lines-clause-refused : goal.returns-in_err-lines-clause-refused
@@ -12,14 +12,20 @@ returns-in_err-lines-clause-refused g c =
 pub returns-in_err-lines-clause-only : goal.returns-in_err-lines-clause-only
 returns-in_err-lines-clause-only g c =
     let p = err_from_is_err_and c.from_residual.result c.from_residual.ensures.1 in
-    rw (p.1, p.2) (only_of_bytes g.row.M.Denot g.row.M-Form.Denot (g.M.Machine.rules c.args.machine)
-    c.args.program.now c.args.bytes.now c.in_err-lines.field-0.0 c.in_err-lines.ensures.refused)
+    rw (p.1, p.2) (λ not other is. elim c.in_err-lines.ensures.refused [
+      | inl memory ↦ absurd (not memory)
+      | inr was ↦ one_refusal_of_bytes g.row.M.Denot g.row.M-Form.Denot (g.M.Machine.rules c.args.machine)
+          c.args.program.now c.args.bytes.now other _ is was
+    ])
 
 pub returns-in_err-lines-clause-passes : goal.returns-in_err-lines-clause-passes
 returns-in_err-lines-clause-passes g c =
     let p = err_from_is_err_and c.from_residual.result c.from_residual.ensures.1 in
-    rw (p.1, p.2) (refused_bytes g.row.M.Denot g.row.M-Form.Denot (g.M.Machine.rules c.args.machine)
-    c.args.program.now c.args.bytes.now c.in_err-lines.field-0.0 c.in_err-lines.ensures.refused)
+    rw (p.1, p.2) (λ not entries pass. elim c.in_err-lines.ensures.refused [
+      | inl memory ↦ not memory
+      | inr was ↦ passing_bytes g.row.M.Denot g.row.M-Form.Denot (g.M.Machine.rules c.args.machine)
+          c.args.program.now c.args.bytes.now entries _ pass was
+    ])
 
 pub returns-clause-pass : goal.returns-clause-pass
 returns-clause-pass g c =
@@ -30,8 +36,7 @@ pub returns-clause-every : goal.returns-clause-every
 returns-clause-every g c =
     let bound = g.met.M.Machine g.world.𝓛 g.world.𝓜 g.world.𝓡 ((λ s x. x), (λ x. x), (λ x. x), λ x. x) in
     let pass = c.in_ok-lines.ensures.pass in
-    passing_holds (g.M.Machine.rules c.args.machine) c.args.program.now (bound.lawful c.args.machine)
-    c.initial.ensures.limits (g.M.Machine.form_of c.args.machine) (bound.forms c.args.machine) pass.0 pass.2
+    passing_holds (bound.lawful c.args.machine) c.initial.ensures.limits (bound.forms c.args.machine) pass.0 pass.2
 
 pub returns-clause-none : goal.returns-clause-none
 returns-clause-none g c =

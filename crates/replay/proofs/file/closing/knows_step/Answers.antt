@@ -7,5 +7,5 @@ returns-clause-new g c =
       c.step_here.new.self,
       c.in-Ok.ensures.step,
       λ has. true≢false (sym (c.contains-is_known.ensures.1
-          (subst (λ l. Contains c.args.labels.now l) (sym c.in_ok-label.ensures) has)) ∙ no),
+          (subst (λ l. Contains c.args.labels.now l) (sym c.in_ok-label.ensures.label) has)) ∙ no),
     )

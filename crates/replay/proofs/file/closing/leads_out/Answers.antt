@@ -1,9 +1,8 @@
-use Rattle.std.proofs.Common.{◌≡◌, ◌+◌, ◌<◌, ◌≤◌, length, ap, arith, subst, sym, ◌∙◌}
+use Rattle.std.proofs.Common.{◌≡◌, ◌<◌, ◌≤◌, length, ap, arith, ◌∙◌}
 use Rattle.tree_machine.specs.Step.{step}
-use Rattle.replay.specs.BookFile.Kept.{StandsForEntry}
 use Rattle.replay.specs.Labels.{named_by}
-use Rattle.replay.proofs.BookFile.Known.{line_known, no_more_threads, one_more_thread}
-use Rattle.replay.proofs.BookFile.Replayed.{count_labels}
+use Rattle.replay.proofs.BookFile.Known.{line_known, one_more_thread}
+use Rattle.replay.proofs.BookFile.Replayed.{count_labels, machine}
 use Rattle.replay.proofs.file.closing.leads_out.Goals as goal
 
 pub knows_step-requires-clause-fits : goal.knows_step-requires-clause-fits
@@ -13,21 +12,15 @@ knows_step-requires-clause-fits g c κs within =
 
 pub knows_step-requires-clause-steps_fit : goal.knows_step-requires-clause-steps_fit
 knows_step-requires-clause-steps_fit g c κs within =
-    let input = c.args.input.now in
     let w = c.requires.stands c.requires.kept.states c.requires.kept.replayed in
     let bounded : c.args.replayer.now.state.steps ≤ c.args.index = w.2.steps in
     let below : c.args.index < length c.args.labels.now = c.requires.within in
-    let most : length input.lines.now < 2000000 = c.requires.bounded in
-    let all : length c.args.labels.now ≡ length input.lines.now + 1 =
-    count_labels (g.M.Machine.rules input.machine) input.program.now
-    (named_by g.M.Encode.form_code (g.M.Machine.form_of input.machine)) input.lines.now c.args.labels.now
-    c.requires.kept in
-    rw c.loop-thread.invariant.0 (omega arith)
+    let most : length c.args.input.now.lines.now < 2000000 = c.requires.bounded in
+    rw c.loop-thread.invariant.0 (omega (arith, count_labels c.requires.kept))
 
 pub loop-thread-preserved-then-has_step : goal.loop-thread-preserved-then-has_step
 loop-thread-preserved-then-has_step g c =
     let bound = g.met.M.Machine g.world.𝓛 g.world.𝓜 g.world.𝓡 ((λ s x. x), (λ x. x), (λ x. x), λ x. x) in
-    let coding = g.met.M.Encode g.world.𝓛 g.world.𝓜 g.world.𝓡 ((λ s x. x), (λ x. x), (λ x. x), λ x. x) in
     let input = c.args.input.now in
     let rules = g.M.Machine.rules input.machine in
     let state = c.args.replayer.now.state in
@@ -36,12 +29,11 @@ loop-thread-preserved-then-has_step g c =
       one_more_thread rules input.program.now
           (named_by g.M.Encode.form_code (g.M.Machine.form_of input.machine)) c.args.labels.now state
           c.loop-thread.thread
-          (λ next leads. line_known rules input.program.now (bound.lawful input.machine) c.threads.ensures.limits
-          (g.M.Machine.form_of input.machine) (bound.forms input.machine) g.M.Encode.form_code input.lines.now
-          c.args.labels.now coding.form_tells c.requires.kept c.loop-thread.next stated.0 stated.1 state
-          (subst (λ i. StandsForEntry rules input.program.now input.lines.now i state) (sym stated.2) c.requires.stands)
-          next (ap (step rules input.program.now state) stated.3 ∙ leads))
+          (λ next leads. line_known (bound.lawful input.machine) c.threads.ensures.limits (bound.forms input.machine)
+          g.M.Encode.form_code c.requires.kept c.loop-thread.next stated.0 stated.1 state
+          (rw stated.2 c.requires.stands) next (ap (step rules input.program.now state) stated.3 ∙ leads))
           c.loop-thread.invariant.1,
+      c.loop-thread.invariant.2,
     )
 
 pub returns-clause-none : goal.returns-clause-none
@@ -50,12 +42,16 @@ returns-clause-none g c =
     let input = c.args.input.now in
     let least : length c.threads.result.now ≤ c.loop-thread.thread = c.loop-thread-test.false in
     let all : length c.threads.result.now ≡ length input.program.now.threads = ap length c.threads.ensures.value in
-    let many : length input.program.now.threads ≤ c.loop-thread.thread = omega arith in
-    λ _. no_more_threads (g.M.Machine.rules input.machine) input.program.now (bound.lawful input.machine)
-    c.threads.ensures.limits (named_by g.M.Encode.form_code (g.M.Machine.form_of input.machine)) c.args.labels.now
-    c.args.replayer.now.state c.loop-thread.thread many c.loop-thread.invariant.1
+    λ _ t next leads.
+    let runs = (machine (bound.lawful input.machine) c.threads.ensures.limits).is_thread c.args.replayer.now.state next t
+    leads in
+    c.loop-thread.invariant.1 t next (omega arith) leads
 
 pub returns-then-not-branch-clause-out : goal.returns-then-not-branch-clause-out
 returns-then-not-branch-clause-out g c =
     let w = rw c.loop-thread.invariant.0 at (c.in_ok-knows_step.ensures.new c.if-not-branch.true) in
     λ _. (c.loop-thread.thread, w.0, w.1, w.2)
+
+pub returns-then-not-branch-clause-source : goal.returns-then-not-branch-clause-source
+returns-then-not-branch-clause-source g c =
+    rw (c.in_ok-knows_step.ensures.source, c.in_ok-knows_step.ensures.state) c.loop-thread.invariant.2

@@ -1,50 +1,39 @@
-use Rattle.std.proofs.Common.{◌≡◌, ◌+◌, ◌<◌, ◌≤◌, inr, length, arith}
-use Rattle.replay.specs.Labels.{named_by}
+use Rattle.std.proofs.Common.{◌≡◌, ◌<◌, ◌≤◌, inr, length, arith}
 use Rattle.replay.proofs.BookFile.Known.{known_next, open_next, known_closed}
 use Rattle.replay.proofs.BookFile.Replayed.{count_labels}
 use Rattle.replay.proofs.file.closing.test_closed.Goals as goal
 
 pub overflow_add-result : goal.overflow_add-result
 overflow_add-result g c =
-    let input = c.args.input.now in
     let end : c.len-i-end.result ≡ length c.args.labels.now = c.len-i-end.ensures in
     let less : c.loop-i.i < c.len-i-end.result = c.loop-i-test.true in
-    let most : length input.lines.now < 2000000 = c.requires.bounded in
-    let all : length c.args.labels.now ≡ length input.lines.now + 1 =
-    count_labels (g.M.Machine.rules input.machine) input.program.now
-    (named_by g.M.Encode.form_code (g.M.Machine.form_of input.machine)) input.lines.now c.args.labels.now
-    c.requires.kept in
-    omega arith
+    let most : length c.args.input.now.lines.now < 2000000 = c.requires.bounded in
+    omega (arith, count_labels c.requires.kept)
 
 pub returns-then-branch-clause-refused : goal.returns-then-branch-clause-refused
 returns-then-branch-clause-refused g c =
     let bound = g.met.M.Machine g.world.𝓛 g.world.𝓜 g.world.𝓡 ((λ s x. x), (λ x. x), (λ x. x), λ x. x) in
     let coding = g.met.M.Encode g.world.𝓛 g.world.𝓜 g.world.𝓡 ((λ s x. x), (λ x. x), (λ x. x), λ x. x) in
     let input = c.args.input.now in
-    inr (open_next (g.M.Machine.rules input.machine) input.program.now (bound.lawful input.machine)
-    c.initial.ensures.limits (g.M.Machine.form_of input.machine) (bound.forms input.machine)
-    g.M.Encode.form_code input.lines.now c.args.labels.now coding.form_tells c.requires.kept
-    c.loop-i.i c.recall.new.state c.in_ok-recall.ensures (c.in_ok-leads_out.ensures.out c.if-branch.true)
-    c.loop-i.invariant)
+    inr (open_next (bound.lawful input.machine) c.initial.ensures.limits (bound.forms input.machine)
+    g.M.Encode.form_code c.requires.kept coding.form_tells c.loop-i.i c.recall.new.replayer.state c.in_ok-recall.ensures.stands
+    (c.in_ok-leads_out.ensures.out c.if-branch.true) c.loop-i.invariant.0)
 
 pub loop-i-preserved : goal.loop-i-preserved
 loop-i-preserved g c =
     let bound = g.met.M.Machine g.world.𝓛 g.world.𝓜 g.world.𝓡 ((λ s x. x), (λ x. x), (λ x. x), λ x. x) in
     let input = c.args.input.now in
-    known_next (g.M.Machine.rules input.machine) input.program.now (bound.lawful input.machine)
-    c.initial.ensures.limits (g.M.Machine.form_of input.machine) (bound.forms input.machine)
-    g.M.Encode.form_code input.lines.now c.args.labels.now
-    c.loop-i.i c.recall.new.state c.in_ok-recall.ensures (c.in_ok-leads_out.ensures.none c.if-branch.false)
-    c.loop-i.invariant
+    (known_next (bound.lawful input.machine) c.initial.ensures.limits (bound.forms input.machine)
+    g.M.Encode.form_code input.lines.now c.args.labels.now c.loop-i.i c.recall.new.replayer.state c.in_ok-recall.ensures.stands
+    (c.in_ok-leads_out.ensures.none c.if-branch.false) c.loop-i.invariant.0, c.in_ok-leads_out.ensures.source)
 
 pub returns-clause-pass : goal.returns-clause-pass
 returns-clause-pass g c =
     let bound = g.met.M.Machine g.world.𝓛 g.world.𝓜 g.world.𝓡 ((λ s x. x), (λ x. x), (λ x. x), λ x. x) in
     let coding = g.met.M.Encode g.world.𝓛 g.world.𝓜 g.world.𝓡 ((λ s x. x), (λ x. x), (λ x. x), λ x. x) in
-    let input = c.args.input.now in
     let end : c.len-i-end.result ≡ length c.args.labels.now = c.len-i-end.ensures in
     let past : c.len-i-end.result ≤ c.loop-i.i = c.loop-i-test.false in
-    known_closed (g.M.Machine.rules input.machine) input.program.now (bound.lawful input.machine)
-    c.initial.ensures.limits (g.M.Machine.form_of input.machine) (bound.forms input.machine)
-    g.M.Encode.form_code input.lines.now c.args.labels.now coding.form_tells c.requires.kept
-    (λ states so i s less at. c.loop-i.invariant states so i s (omega arith) at)
+    let input = c.args.input.now in
+    known_closed (bound.lawful input.machine) c.initial.ensures.limits (bound.forms input.machine)
+    g.M.Encode.form_code c.requires.kept coding.form_tells
+    (λ states so i s less at. c.loop-i.invariant.0 states so i s (omega arith) at)

@@ -1,62 +1,54 @@
-use Rattle.std.proofs.Common.{◌∙◌, ap, [], ◌∷◌, ◌++◌}
+use Rattle.std.proofs.Common.{inl, inr}
 use Rattle.std.proofs.lemmas.List.{take_all}
 use Rattle.std.proofs.lemmas.Result.{err_from_is_err_and}
-use Rattle.replay.specs.Labels.{named_by}
-use Rattle.replay.proofs.BookFile.Replayed.{amiss_at_start, amiss_of_next, labels_bounded, labels_next, labels_start}
+use Rattle.replay.proofs.BookFile.Replayed.{amiss_of_next, labels_bounded, labels_next, labels_start}
+use Rattle.replay.proofs.BookFile.Twins.{source_pushed}
 use Rattle.replay.proofs.file.replaying.replay_lines.Goals as goal
 
 pub loop-i-init : goal.loop-i-init
 loop-i-init g c =
-    let input = c.args.input.now in
-    labels_start (g.M.Machine.rules input.machine) input.program.now
-    (named_by g.M.Encode.form_code (g.M.Machine.form_of input.machine)) c.in_ok-state.state
-    c.in_ok-label.field-0 c.push.new.self c.in_ok-state.ensures.start c.in_ok-test_state.ensures.shown
-    c.in_ok-label.ensures
-    (c.in_ok-push.ensures ∙ ap (λ xs. xs ++ c.in_ok-label.field-0 ∷ []) c.new-labels.ensures)
+    (labels_start c.args.replayer.now.state c.in_ok-first.first c.push.new.self c.requires.start
+    c.in_ok-first.ensures.shown c.in_ok-first.ensures.label (rw c.new-labels.ensures at c.in_ok-push.ensures),
+    rw (c.in_ok-first.ensures.source, c.requires.source) tt)
 
 pub loop-i-preserved : goal.loop-i-preserved
 loop-i-preserved g c =
-    let input = c.args.input.now in
-    labels_next (g.M.Machine.rules input.machine) input.program.now
-    (named_by g.M.Encode.form_code (g.M.Machine.form_of input.machine)) input.lines.now c.loop-i.labels c.loop-i.i
-    c.line-item.result c.loop-i-test.true c.line-item.is c.loop-i.invariant
-    c.in_ok-next.next c.push-in-loop-i.new.self c.in_ok-next.ensures.tells c.in_ok-push-2.ensures
+    (labels_next c.args.input.now.lines.now c.loop-i.i c.line-item.result c.loop-i-test.true c.line-item.is
+    c.loop-i.invariant.0 c.in_ok-next.next c.push-in-loop-i.new.self c.in_ok-next.ensures.tells c.in_ok-push-2.ensures,
+    rw c.in_ok-push-2.ensures (source_pushed g.M.Encode.front_code g.M.Encode.behind_code c.loop-i.labels
+    c.in_ok-next.next c.label_of_line.new.replayer.source c.label_of_line.new.replayer.state
+    c.in_ok-next.ensures.source))
 
 pub returns-in_err-next-clause-amiss : goal.returns-in_err-next-clause-amiss
 returns-in_err-next-clause-amiss g c =
-    let input = c.args.input.now in
     let exit = c.from_residual-in_err-next in
     let p = err_from_is_err_and exit.result exit.ensures.1 in
-    rw (p.1, p.2)
-    (amiss_of_next (g.M.Machine.rules input.machine) input.program.now
-    (named_by g.M.Encode.form_code (g.M.Machine.form_of input.machine)) input.lines.now c.loop-i.labels c.loop-i.i
-    c.line-item.result c.loop-i-test.true c.line-item.is c.loop-i.invariant
-    c.in_err-next.field-0.0 c.in_err-next.ensures.amiss)
+    rw (p.1, p.2) (elim c.in_err-next.ensures.amiss [
+      | inl memory ↦ inl memory
+      | inr amiss ↦ inr (amiss_of_next c.args.input.now.lines.now c.loop-i.i c.line-item.result c.loop-i-test.true
+          c.line-item.is c.loop-i.invariant.0 c.in_err-next.field-0.0 amiss)
+    ])
 
-pub returns-in_err-test_state-clause-amiss : goal.returns-in_err-test_state-clause-amiss
-returns-in_err-test_state-clause-amiss g c =
-    let input = c.args.input.now in
-    let p = err_from_is_err_and c.from_residual-in_err-test_state.result c.from_residual-in_err-test_state.ensures.1 in
-    rw (p.1, p.2)
-    (amiss_at_start (g.M.Machine.rules input.machine) input.program.now input.lines.now c.in_ok-state.state
-    c.in_err-test_state.field-0.0 c.in_ok-state.ensures.start c.in_err-test_state.ensures.unshown)
+pub returns-in_err-first-clause-amiss : goal.returns-in_err-first-clause-amiss
+returns-in_err-first-clause-amiss g c =
+    let p = err_from_is_err_and c.from_residual.result c.from_residual.ensures.1 in
+    rw (p.1, p.2) (elim (rw c.requires.start at c.in_err-first.ensures.unshown) [
+      | inl memory ↦ inl memory
+      | inr unshown ↦ inr (inl unshown)
+    ])
 
 pub returns-clause-kept : goal.returns-clause-kept
-returns-clause-kept g c = rw (take_all c.loop-i.i c.args.input.now.lines.now c.loop-i-test.false) at c.loop-i.invariant
+returns-clause-kept g c = rw (take_all c.loop-i.i c.args.input.now.lines.now c.loop-i-test.false) at c.loop-i.invariant.0
 
 pub label_of_line-requires-clause-kept : goal.label_of_line-requires-clause-kept
-label_of_line-requires-clause-kept g c κs within = c.loop-i.invariant
+label_of_line-requires-clause-kept g c κs within = c.loop-i.invariant.0
 
 pub label_of_line-requires-clause-bounded : goal.label_of_line-requires-clause-bounded
 label_of_line-requires-clause-bounded g c κs within =
-    let input = c.args.input.now in
-    labels_bounded (g.M.Machine.rules input.machine) input.program.now
-    (named_by g.M.Encode.form_code (g.M.Machine.form_of input.machine)) input.lines.now c.loop-i.labels c.loop-i.i
-    c.loop-i.invariant c.loop-i-test.true c.requires
+    labels_bounded c.args.input.now.lines.now c.loop-i.i c.line-item.result c.loop-i-test.true c.line-item.is
+    c.loop-i.invariant.0 c.requires.bounded
 
 pub push-requires-in-loop-i : goal.push-requires-in-loop-i
 push-requires-in-loop-i g c =
-    let input = c.args.input.now in
-    labels_bounded (g.M.Machine.rules input.machine) input.program.now
-    (named_by g.M.Encode.form_code (g.M.Machine.form_of input.machine)) input.lines.now c.loop-i.labels c.loop-i.i
-    c.loop-i.invariant c.loop-i-test.true c.requires
+    labels_bounded c.args.input.now.lines.now c.loop-i.i c.line-item.result c.loop-i-test.true c.line-item.is
+    c.loop-i.invariant.0 c.requires.bounded
