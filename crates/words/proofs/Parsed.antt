@@ -41,7 +41,7 @@ passed s words name rows is none =
     record { words = words; named = sym (ap (λ p. p.0) same); are = sym (ap (λ p. p.1) same); none = none }
 
 -- what the matches of such a subcommand hold
-module _ {s : Shape} {name : Text} {rows : List Row} (is : IsPassed s name rows) (regular : AreRegular s.rules s.rules)
+module _ {s : Shape} {name : Text} {rows : List Row} (is : IsPassed s name rows) (regular : AreRegular s.rules)
     (id : Text) (a : Rule) (found : arg_by_id s.rules id ≡ Some a) (set : action_of a ≡ Set) where
   required : s.subcommand_negates_reqs ≡ false → a.required ≡ true → HasValue a id rows
   required kept needed =
@@ -81,7 +81,7 @@ module _ (choices : Choices) where
   abbrev check_leaf : Shape
   check_leaf = leaf line.check.top
 
-  regular : AreRegular all.top.rules all.top.rules
+  regular : AreRegular all.top.rules
   regular = (record { own = refl; valued = λ set. absurd (cc) }, tt)
 
   -- an argument with one value, and a flag, before others
@@ -93,15 +93,15 @@ module _ (choices : Choices) where
       → IsRegular c a × Others
   flag own not others = (record { own = own; valued = λ set. absurd (not set) }, others)
 
-  explore_regular : AreRegular explore_leaf.rules explore_leaf.rules
+  explore_regular : AreRegular explore_leaf.rules
   explore_regular =
       valued refl refl (valued refl refl (valued refl refl (valued refl refl (valued refl refl
       (flag refl (λ set. cc) (valued refl refl (flag refl (λ set. cc) tt)))))))
 
-  replay_regular : AreRegular replay_leaf.rules replay_leaf.rules
+  replay_regular : AreRegular replay_leaf.rules
   replay_regular = valued refl refl (valued refl refl (flag refl (λ set. cc) tt))
 
-  check_regular : AreRegular check_leaf.rules check_leaf.rules
+  check_regular : AreRegular check_leaf.rules
   check_regular = valued refl refl (valued refl refl (flag refl (λ set. cc) tt))
 
   -- ---- the subcommand that the words name

@@ -1,5 +1,6 @@
 -- What the matches of a subcommand hold where clap finds no fault in its words.
 use Rattle.std.proofs.Common.{◌≡◌, ◌&&◌, Bool, true, false, not, refl, List, [], Some}
+use Rattle.std.proofs.lemmas.Bool.{or_right}
 use Rattle.std.specs.Prelude.{IfSome}
 use Rattle.std.specs.List.{list_any}
 use Rattle.clap.specs.Faults.{check_fault, defaults_fault, level_fault, settle_fault, walk_fault}
@@ -48,7 +49,7 @@ module _ (s : Shape) (names : Names) (words : List Text) (has : Bool) (below : K
   pub below_passed : below ≡ []
   below_passed = parts.1
 
-  module _ (regular : AreRegular s.rules s.rules) where
+  module _ (regular : AreRegular s.rules) where
     stands : Stands s regular (walk s.rules names nothing_held words)
     stands = walk_stands s regular names words (walk_from nothing_held) parts.0 (record { rows = tt; stopped = tt })
 
@@ -85,4 +86,5 @@ module _ (s : Shape) (names : Names) (words : List Text) (has : Bool) (below : K
     pub default_value : (id : Text) (a : Rule) → arg_by_id s.rules id ≡ Some a → action_of a ≡ Set
         → has_default id s.rules ≡ true → HasValue a id rows
     default_value id a is set default =
-        has_value id a (default_given id s.rules (settled s.rules end).rows default) is set
+        has_value id a (default_given id s.rules (settled s.rules end).rows
+        (or_right (has_row id (settled s.rules end).rows) (has_default id s.rules) default)) is set
