@@ -1,7 +1,7 @@
 -- What clap's matches hold where it finds no fault: an argument that is set has a value, which its parser takes.
 use Rattle.std.proofs.Common.{◌≡◌, ◌∙◌, ◌&&◌, ◌||◌, ℕ, Bool, cond, true, false, not, refl, ap, List, [], ◌∷◌}
 use Rattle.std.proofs.Common.{◌++◌, ◌+◌, arith, min, length, Option, Some, None, inl, inr, is_some, sym}
-use Rattle.std.specs.Prelude.{⊤, fold, find, slice_get}
+use Rattle.std.specs.Prelude.{fold, find, slice_get}
 use Rattle.std.specs.List.{AllByRecursion, list_any}
 use Rattle.std.specs.Option.{option_map_or}
 use Rattle.std.specs.Str.{bytes_eq}
@@ -50,7 +50,7 @@ AreRegular c = AllByRecursion (IsRegular c) c
 -- ---- the first that passes a test
 
 -- what is true of each is true of the first that passes
-pub find_is : {X : Type 0} (P : X → Type 0) (p : X → Bool) (xs : List X) (x : X) → AllByRecursion P xs
+find_is : {X : Type 0} (P : X → Type 0) (p : X → Bool) (xs : List X) (x : X) → AllByRecursion P xs
     → find p xs ≡ Some x → P x × (p x ≡ true)
 find_is P p [] x all is = absurd (cc)
 find_is P p (y ∷ ys) x all is =
@@ -58,6 +58,9 @@ find_is P p (y ∷ ys) x all is =
       | inl holds ↦ (let one : y ≡ x = cc (rw holds at is) in rw (← one) (all.0, holds))
       | inr fails ↦ find_is P p ys x all.1 (rw fails at is)
     ]
+
+pub found : (c : List Rule) → AreRegular c → (p : Rule → Bool) (a : Rule) → find p c ≡ Some a → IsRegular c a
+found c regular p a is = (find_is (IsRegular c) p c a regular is).0
 
 -- there is one just where some pass
 any_is_found : {X : Type 0} (p : X → Bool) (xs : List X) → list_any p xs ≡ is_some (find p xs)
@@ -213,7 +216,7 @@ module _ (c : List Rule) (again : Bool) (regular : AreRegular c) where
           → option_map_or (λ a. use_fault again a values h.rows) o [] ≡ [] → Suit c (used_by_id o values h.rows)
       by_id None id values is none = suit
       by_id (Some a) id values is none =
-          used_suits c again a (find_is (IsRegular c) (λ x. bytes_eq x.id id) c a regular is).0 values h.rows none suit
+          used_suits c again a (found c regular (λ x. bytes_eq x.id id) a is) values h.rows none suit
 
       go : (p : Option (Text × List Text))
           → option_map_or (λ q. option_map_or (λ a. use_fault again a q.1 h.rows) (arg_by_id c q.0) []) p [] ≡ []

@@ -13,30 +13,40 @@ use Rattle.clap.specs.Lexer.{long_of, short_of}
 use Rattle.clap.specs.Simple.{Shape}
 use Rattle.clap.specs.Walk.{Held, Names, Outcome, Rule, Step, Text, Waiting, Walk, after_flag, after_step, arg_by_id}
 use Rattle.clap.specs.Walk.{arg_by_index, arg_by_long, arg_by_short, attached_value, bundle, bundle_met, bundle_step}
-use Rattle.clap.specs.Walk.{done, flag_met, has_long, has_short, idle, is_pending, long_met, long_or_other, next}
+use Rattle.clap.specs.Walk.{done, flag_met, has_long, has_short, is_pending, long_met, long_or_other, next}
 use Rattle.clap.specs.Walk.{option, option_met, option_word, plain, plain_word, reacted, settled}
 use Rattle.clap.specs.Walk.{short_met, short_or_plain, subcommand, subcommand_met, subcommand_or_other, takes_several}
 use Rattle.clap.specs.Walk.{takes_values, to_positional, trailing, value, waits, walked, walked_from, word_met}
 use Rattle.clap.specs.declared.error.kind.ErrorKind.TheVariants as kind
-use Rattle.words.proofs.Accepted.{AreRegular, IsRegular, Suit, find_is, none_of, none_where, settled_suit}
+use Rattle.words.proofs.Accepted.{AreRegular, IsRegular, Suit, found, none_of, none_where, settled_suit}
 use Rattle.words.proofs.Accepted.{used_suits}
 
 -- ---- one word
 
-plain_rows : (c : List Rule) (waiting : Waiting) (word : Text) (h : Held)
-    → (plain_word c waiting word h).0.rows ≡ h.rows
-plain_rows c (option id) word h = go (arg_by_id c id)
-  where
-    go : (o : Option Rule) → (option_word o id word h).0.rows ≡ h.rows
-    go None = refl
-    go (Some a) = refl
-plain_rows c waiting word h = refl
+-- the step enters no subcommand but one for which the test fails
+abbrev pub StepPasses : (Text → Bool) → Step → Type 0
+StepPasses p (subcommand name) = p name ≡ false
+StepPasses p _ = ⊤
 
-flag_rows : (c : List Rule) (waiting : Waiting) (word : Text) (h : Held) (out : Outcome)
-    → (after_flag c waiting word h out).0.rows ≡ h.rows
-flag_rows c waiting word h done = refl
-flag_rows c waiting word h (waits id) = refl
-flag_rows c waiting word h out = plain_rows c waiting word h
+-- what a word is, before it goes to a positional: its rows suit, and its step passes
+pub record IsMet (c : List Rule) (p : Text → Bool) (m : Held × Step) : Type 0 where
+  pub rows : Suit c m.0.rows
+  pub step : StepPasses p m.1
+
+module _ (c : List Rule) (p : Text → Bool) where
+  plain_met : (waiting : Waiting) (word : Text) (h : Held) → Suit c h.rows → IsMet c p (plain_word c waiting word h)
+  plain_met (option id) word h suit = record { rows = go (arg_by_id c id); step = tt }
+    where
+      go : (o : Option Rule) → Suit c (option_word o id word h).0.rows
+      go None = suit
+      go (Some a) = suit
+  plain_met waiting word h suit = record { rows = suit; step = tt }
+
+  after_met : (waiting : Waiting) (word : Text) (h : Held) (out : Outcome) → Suit c h.rows
+      → IsMet c p (after_flag c waiting word h out)
+  after_met waiting word h done suit = record { rows = suit; step = tt }
+  after_met waiting word h (waits id) suit = record { rows = suit; step = tt }
+  after_met waiting word h out suit = plain_met waiting word h suit
 
 module _ (c : List Rule) (again : Bool) (regular : AreRegular c) where
   react_suits : (a : Rule) → IsRegular c a → (values : List Text) (h : Held) → react_fault c again a values h ≡ []
@@ -88,53 +98,25 @@ module _ (c : List Rule) (again : Bool) (regular : AreRegular c) where
       step None skip none later = suit
       step (Some x) zero none later =
           let rest = drop (length (encode_utf8 x)) flags in
-          short_suits (arg_by_short c x) (λ a is.
-          (find_is (IsRegular c) (λ r. not (is_some r.index) && has_short r x) c a regular is).0) rest h (flags_fault c again k rest 0) (bundle_met c k rest 0 done)
+          short_suits (arg_by_short c x) (found c regular (λ r. not (is_some r.index) && has_short r x)) rest h
+          (flags_fault c again k rest 0) (bundle_met c k rest 0 done)
           (λ g n s. later rest 0 done g n s) none suit
       step (Some x) (suc skip) none later = later (drop (length (encode_utf8 x)) flags) skip so_far h none suit
 
   -- a word that is no subcommand and no `--`
-  other_suits : (o : Option (Text × Option Text)) (waiting : Waiting) (word : Text) (h : Held)
-      → flag_word_fault c again o word h ≡ [] → Suit c h.rows → Suit c (long_or_other c waiting word o h).0.rows
-  other_suits (Some p) waiting word h none suit =
-      rw (flag_rows c waiting word (long_met c (arg_by_long c p.0) p.1 h).0)
-      (long_suits (arg_by_long c p.0) (λ a is.
-      (find_is (IsRegular c) (λ r. not (is_some r.index) && has_long r p.0) c a regular is).0) p.1 h none suit)
-  other_suits None waiting word h none suit = go (short_of word) none
+  other_met : (p : Text → Bool) (o : Option (Text × Option Text)) (waiting : Waiting) (word : Text) (h : Held)
+      → flag_word_fault c again o word h ≡ [] → Suit c h.rows → IsMet c p (long_or_other c waiting word o h)
+  other_met p (Some q) waiting word h none suit =
+      after_met c p waiting word _ (long_met c (arg_by_long c q.0) q.1 h).1 (long_suits (arg_by_long c q.0)
+      (found c regular (λ r. not (is_some r.index) && has_long r q.0)) q.1 h none suit)
+  other_met p None waiting word h none suit = go (short_of word) none
     where
       go : (o : Option Text) → option_map_or (λ flags. bundle_fault c again flags h) o [] ≡ []
-          → Suit c (short_or_plain c waiting word o h).0.rows
-      go None none = rw (plain_rows c waiting word h) suit
+          → IsMet c p (short_or_plain c waiting word o h)
+      go None none = plain_met c p waiting word h suit
       go (Some flags) none =
-          rw (flag_rows c waiting word (bundle c flags h).0)
+          after_met c p waiting word _ (bundle c flags h).1
           (flags_suit (length flags) flags h.skip plain (record h { skip = 0 }) none suit)
-
--- ---- what is no subcommand
-
--- the step enters no subcommand but one for which the test fails
-abbrev pub StepPasses : (Text → Bool) → Step → Type 0
-StepPasses p (subcommand name) = p name ≡ false
-StepPasses p _ = ⊤
-
-module _ (p : Text → Bool) (c : List Rule) where
-  plain_step : (waiting : Waiting) (word : Text) (h : Held) → StepPasses p (plain_word c waiting word h).1
-  plain_step idle word h = tt
-  plain_step waiting word h = tt
-
-  flag_step : (waiting : Waiting) (word : Text) (h : Held) (out : Outcome)
-      → StepPasses p (after_flag c waiting word h out).1
-  flag_step waiting word h done = tt
-  flag_step waiting word h (waits id) = tt
-  flag_step waiting word h out = plain_step waiting word h
-
-  other_step : (o : Option (Text × Option Text)) (waiting : Waiting) (word : Text) (h : Held)
-      → StepPasses p (long_or_other c waiting word o h).1
-  other_step (Some q) waiting word h = flag_step waiting word _ (long_met c (arg_by_long c q.0) q.1 h).1
-  other_step None waiting word h = go (short_of word)
-    where
-      go : (o : Option Text) → StepPasses p (short_or_plain c waiting word o h).1
-      go None = plain_step waiting word h
-      go (Some flags) = flag_step waiting word _ (bundle c flags h).1
 
 -- ---- the walk
 
@@ -148,23 +130,16 @@ module _ (s : Shape) (regular : AreRegular s.rules) where
     pub rows : Suit s.rules w.held.rows
     pub stopped : IfSome w.stopped (λ q. is_help s q.0 ≡ false)
 
-  -- a word, before it goes to a positional
-  pub record Met (m : Held × Step) : Type 0 where
-    pub rows : Suit s.rules m.0.rows
-    pub step : StepPasses (is_help s) m.1
-
   word_stands : (o : Option Text) (waiting : Waiting) (position : ℕ) (word : Text) (h : Held)
       → other_fault s o word h ≡ [] → Suit s.rules h.rows
-      → Met (subcommand_or_other s.rules o waiting position word h)
+      → IsMet s.rules (is_help s) (subcommand_or_other s.rules o waiting position word h)
   word_stands (Some name) waiting position word h none suit =
       record { rows = suit; step = none_where (is_help s name) kind.DisplayHelp (kind.InvalidSubcommand ∷ []) none }
   word_stands None waiting position word h none suit =
       elim (cases_Bool (bytes_eq word (45 ∷ 45 ∷ []))) [
         | inl holds ↦ rw holds (record { rows = suit; step = tt })
-        | inr fails ↦ rw fails (record {
-          rows = other_suits s.rules s.args_override_self regular (long_of word) waiting word h (rw fails at none) suit;
-          step = other_step (is_help s) s.rules (long_of word) waiting word h;
-        })
+        | inr fails ↦ rw fails (other_met s.rules s.args_override_self regular (is_help s) (long_of word) waiting word h
+            (rw fails at none) suit)
       ]
 
   step_stands : (w : Walk) (word : Text) → w.stopped ≡ None → (h : Held) (step : Step)
@@ -203,7 +178,7 @@ module _ (s : Shape) (regular : AreRegular s.rules) where
           let each = none_of (word_fault s names w.is_trailing w.waiting word w.held) _ none in
           let other = subcommand_met names w.waiting word in
           let m = cond_both w.is_trailing (w.held, value)
-          (subcommand_or_other s.rules other w.waiting w.position word w.held) Met
+          (subcommand_or_other s.rules other w.waiting w.position word w.held) (IsMet s.rules (is_help s))
           (λ _. record { rows = stands.rows; step = tt })
           (λ fails. word_stands other w.waiting w.position word w.held (rw fails at each.0) stands.rows) in
           step_stands w word is met.0 met.1 each.1 m.rows m.step
