@@ -2,9 +2,7 @@
 pub mod Replayed
 pub mod Passing
 pub mod Twins
-pub mod Amiss
 pub mod Known
 pub mod Exclusive
-pub mod Whole
 pub mod Placed
 pub mod Recalled

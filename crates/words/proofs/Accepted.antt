@@ -1,12 +1,13 @@
 -- What clap's matches hold where it finds no fault: an argument that is set has a value, which its parser takes.
 use Rattle.std.proofs.Common.{◌≡◌, ◌∙◌, ◌&&◌, ◌||◌, ℕ, Bool, cond, true, false, not, refl, ap, List, [], ◌∷◌}
-use Rattle.std.proofs.Common.{◌++◌, ◌+◌, arith, min, length, Option, Some, None}
-use Rattle.std.specs.Prelude.{⊤, fold, find, slice_get}
-use Rattle.std.specs.List.{list_any}
+use Rattle.std.proofs.Common.{◌++◌, ◌+◌, arith, min, length, Option, Some, None, inl, inr, is_some, sym}
+use Rattle.std.specs.Prelude.{fold, find, slice_get}
+use Rattle.std.specs.List.{AllByRecursion, list_any}
 use Rattle.std.specs.Option.{option_map_or}
 use Rattle.std.specs.Str.{bytes_eq}
 use Rattle.std.proofs.lemmas.List.Folds.{list_any-append}
 use Rattle.clap.specs.Matches.{count_text}
+use Rattle.std.proofs.lemmas.Bool.{and_parts, cases_Bool, cond_both, false≢true, not-false, or_cases, or_parts, or_right}
 use Rattle.std.proofs.lemmas.Bool.Decides.{nat_tests}
 use Rattle.std.proofs.lemmas.Slice.Eq.{bytes_eq-Decides}
 use Rattle.clap.specs.Faults.{action_fault, default_fault, defaults_fault, given_default_fault, settle_fault, use_fault}
@@ -36,26 +37,40 @@ abbrev pub Suits : List Rule → Row → Type 0
 Suits c r = (a : Rule) → arg_by_id c r.id ≡ Some a → action_of a ≡ action.Set → IsFilled a r
 
 abbrev pub Suit : List Rule → List Row → Type 0
-Suit c [] = ⊤
-Suit c (r ∷ rs) = Suits c r × Suit c rs
+Suit c rows = AllByRecursion (Suits c) rows
 
 -- the argument is the first of its id, and where it is set, a use of it has a value
 pub record IsRegular (c : List Rule) (a : Rule) : Type 0 where
   pub own : arg_by_id c a.id ≡ Some a
   pub valued : action_of a ≡ action.Set → (unwrap_or_range a.range).start_inclusive ≡ 1
 
-abbrev pub AreRegular : List Rule → List Rule → Type 0
-AreRegular c [] = ⊤
-AreRegular c (a ∷ rest) = IsRegular c a × AreRegular c rest
+abbrev pub AreRegular : List Rule → Type 0
+AreRegular c = AllByRecursion (IsRegular c) c
 
-pub found : (c : List Rule) (p : Rule → Bool) (rules : List Rule) (a : Rule) → AreRegular c rules
-    → find p rules ≡ Some a → IsRegular c a
-found c p [] a regular is = absurd (cc)
-found c p (x ∷ xs) a regular is = go (p x) is (found c p xs a regular.1)
-  where
-    go : (b : Bool) → cond b (Some x) (find p xs) ≡ Some a → (find p xs ≡ Some a → IsRegular c a) → IsRegular c a
-    go true is rest = let one : x ≡ a = cc in rw (← one) regular.0
-    go false is rest = rest is
+-- ---- the first that passes a test
+
+-- what is true of each is true of the first that passes
+find_is : {X : Type 0} (P : X → Type 0) (p : X → Bool) (xs : List X) (x : X) → AllByRecursion P xs
+    → find p xs ≡ Some x → P x × (p x ≡ true)
+find_is P p [] x all is = absurd (cc)
+find_is P p (y ∷ ys) x all is =
+    elim (cases_Bool (p y)) [
+      | inl holds ↦ (let one : y ≡ x = cc (rw holds at is) in rw (← one) (all.0, holds))
+      | inr fails ↦ find_is P p ys x all.1 (rw fails at is)
+    ]
+
+pub found : (c : List Rule) → AreRegular c → (p : Rule → Bool) (a : Rule) → find p c ≡ Some a → IsRegular c a
+found c regular p a is = (find_is (IsRegular c) p c a regular is).0
+
+-- there is one just where some pass
+any_is_found : {X : Type 0} (p : X → Bool) (xs : List X) → list_any p xs ≡ is_some (find p xs)
+any_is_found p [] = refl
+any_is_found p (x ∷ xs) = elim (cases_Bool (p x)) [ inl holds ↦ rw holds | inr fails ↦ rw fails (any_is_found p xs) ]
+
+none_pass : {X : Type 0} (p : X → Bool) (xs : List X) → list_any p xs ≡ false
+    → AllByRecursion (λ x. p x ≡ false) xs
+none_pass p [] none = tt
+none_pass p (x ∷ xs) none = let each = or_parts (p x) (list_any p xs) none in (each.0, none_pass p xs each.1)
 
 -- ---- tests of kinds and flags
 
@@ -86,12 +101,9 @@ changed : (c : List Rule) (id : Text) (change : Row → List Row) (missing rows 
     → Suit c (at_row id change missing rows)
 changed c id change missing [] on_change new suit = new
 changed c id change missing (r ∷ rs) on_change new suit =
-    go (bytes_eq r.id id) (changed c id change missing rs on_change new suit.1)
-  where
-    go : (b : Bool) → Suit c (at_row id change missing rs)
-        → Suit c (cond b (change r ++ rs) (r ∷ at_row id change missing rs))
-    go true rest = appended c (change r) rs (on_change r suit.0) suit.1
-    go false rest = (suit.0, rest)
+    cond_both (bytes_eq r.id id) (change r ++ rs) (r ∷ at_row id change missing rs) (Suit c)
+    (λ _. appended c (change r) rs (on_change r suit.0) suit.1)
+    (λ _. (suit.0, changed c id change missing rs on_change new suit.1))
 
 first_stays : (xs ys : List Text) (text : Text) → slice_get xs 0 ≡ Some text → slice_get (xs ++ ys) 0 ≡ Some text
 first_stays [] ys text is = absurd (cc)
@@ -196,7 +208,7 @@ not_empty v vs = grind (arith, nat_tests)
 
 -- ---- what is pending, and the defaults
 
-module _ (c : List Rule) (again : Bool) (regular : AreRegular c c) where
+module _ (c : List Rule) (again : Bool) (regular : AreRegular c) where
   pub settled_suit : (h : Held) → settle_fault c again h ≡ [] → Suit c h.rows → Suit c (settled c h).rows
   settled_suit h none suit = go h.pending none
     where
@@ -204,7 +216,7 @@ module _ (c : List Rule) (again : Bool) (regular : AreRegular c c) where
           → option_map_or (λ a. use_fault again a values h.rows) o [] ≡ [] → Suit c (used_by_id o values h.rows)
       by_id None id values is none = suit
       by_id (Some a) id values is none =
-          used_suits c again a (found c (λ x. bytes_eq x.id id) c a regular is) values h.rows none suit
+          used_suits c again a (found c regular (λ x. bytes_eq x.id id) a is) values h.rows none suit
 
       go : (p : Option (Text × List Text))
           → option_map_or (λ q. option_map_or (λ a. use_fault again a q.1 h.rows) (arg_by_id c q.0) []) p [] ≡ []
@@ -214,7 +226,9 @@ module _ (c : List Rule) (again : Bool) (regular : AreRegular c c) where
 
   default_suits : (a : Rule) (rows : List Row) → IsRegular c a → default_fault rows a ≡ [] → Suit c rows
       → Suit c (with_default rows a)
-  default_suits a rows own none suit = go (has_row a.id rows) none
+  default_suits a rows own none suit =
+      cond_both (has_row a.id rows) rows (default_rows a.id (reading_by a) a.defaults rows) (Suit c) (λ _. suit)
+      (λ missing. given a.defaults (rw missing at none))
     where
       given : (values : List Text) → cond (is_empty values) [] (given_default_fault a values) ≡ []
           → Suit c (default_rows a.id (reading_by a) values rows)
@@ -224,12 +238,7 @@ module _ (c : List Rule) (again : Bool) (regular : AreRegular c c) where
           let passes = first_passes a v vs (none_of (request_kinds (action_of a)) (values_fault a (v ∷ vs)) none).1 in
           values_suit c a own.own DefaultValue (v ∷ vs) rows (λ set. (v, refl, passes)) suit
 
-      go : (b : Bool) → cond (b || is_empty a.defaults) [] (given_default_fault a a.defaults) ≡ []
-          → Suit c (cond b rows (default_rows a.id (reading_by a) a.defaults rows))
-      go true none = suit
-      go false none = given a.defaults none
-
-  pub defaults_suit : (rules : List Rule) (rows : List Row) → AreRegular c rules → defaults_fault rows rules ≡ []
+  pub defaults_suit : (rules : List Rule) (rows : List Row) → AllByRecursion (IsRegular c) rules → defaults_fault rows rules ≡ []
       → Suit c rows
       → Suit c (fold with_default rows rules)
   unfolding defaults_fault
@@ -240,122 +249,86 @@ module _ (c : List Rule) (again : Bool) (regular : AreRegular c c) where
 
 -- ---- the row of an id
 
-or_false : (b : Bool) → (b || false) ≡ b
-or_false true = refl
-or_false false = refl
+-- where no row has the id, a new one comes last
+at_row_last : (id : Text) (change : Row → List Row) (missing rows : List Row) → has_row id rows ≡ false
+    → at_row id change missing rows ≡ rows ++ missing
+at_row_last id change missing [] none = refl
+at_row_last id change missing (r ∷ rs) none =
+    let each = or_parts (bytes_eq r.id id) (has_row id rs) none in
+    rw each.0 (ap (λ l. r ∷ l) (at_row_last id change missing rs each.1))
 
 has_id : (id : Text) → bytes_eq id id ≡ true
 has_id id = (bytes_eq-Decides id id).1 refl
 
-row_stays : (i id : Text) (change : Row → List Row) (missing rows : List Row)
-    → ((r : Row) → list_any (λ x. bytes_eq x.id i) (change r) ≡ bytes_eq r.id i)
-    → has_row i rows ≡ true → has_row i (at_row id change missing rows) ≡ true
-row_stays i id change missing [] same has = absurd (cc)
-row_stays i id change missing (r ∷ rs) same has =
-    go (bytes_eq r.id id) (bytes_eq r.id i) refl (row_stays i id change missing rs same) has
+-- the argument has this id, and default values
+abbrev pub defaults_to : Text → Rule → Bool
+defaults_to i a = bytes_eq a.id i && not (is_empty a.defaults)
+
+-- an id has a row with the defaults of an argument if it has one without, or they are its own
+default_row : (i : Text) (a : Rule) (rows : List Row) → (has_row i rows || defaults_to i a) ≡ true
+    → has_row i (with_default rows a) ≡ true
+default_row i a rows has =
+    cond_both (has_row a.id rows) rows (default_rows a.id (reading_by a) a.defaults rows) (λ l. has_row i l ≡ true)
+    (λ there. elim (or_cases (has_row i rows) (defaults_to i a) has) [
+      | inl here ↦ here
+      | inr own ↦ rw (← same (not (is_empty a.defaults)) own) there
+    ])
+    (λ none. made none a.defaults has)
   where
-    go : (b d : Bool) → bytes_eq r.id i ≡ d → (has_row i rs ≡ true → has_row i (at_row id change missing rs) ≡ true)
-        → (d || has_row i rs) ≡ true
-        → has_row i (cond b (change r ++ rs) (r ∷ at_row id change missing rs)) ≡ true
-    go true d e rest h = list_any-append (λ x. bytes_eq x.id i) (change r) rs ∙ rw (same r, e) h
-    go false true e rest h = rw e refl
-    go false false e rest h = rw e (rest h)
+    same : (b : Bool) → (bytes_eq a.id i && b) ≡ true → a.id ≡ i
+    same b own = (bytes_eq-Decides a.id i).0 (and_parts (bytes_eq a.id i) b own).0
 
-row_made : (id : Text) (change : Row → List Row) (missing rows : List Row)
-    → ((r : Row) → list_any (λ x. bytes_eq x.id id) (change r) ≡ bytes_eq r.id id)
-    → has_row id missing ≡ true → has_row id (at_row id change missing rows) ≡ true
-row_made id change missing [] same made = made
-row_made id change missing (r ∷ rs) same made = go (bytes_eq r.id id) refl (row_made id change missing rs same made)
-  where
-    go : (b : Bool) → bytes_eq r.id id ≡ b → has_row id (at_row id change missing rs) ≡ true
-        → has_row id (cond b (change r ++ rs) (r ∷ at_row id change missing rs)) ≡ true
-    go true e rest = list_any-append (λ x. bytes_eq x.id id) (change r) rs ∙ rw (same r, e) refl
-    go false e rest = rw e rest
-
-module _ (a : Rule) (rows : List Row) where
-  default_keeps : (i : Text) → has_row i rows ≡ true → has_row i (with_default rows a) ≡ true
-  default_keeps i has = go (has_row a.id rows) a.defaults
-    where
-      go : (b : Bool) (values : List Text)
-          → has_row i (cond b rows (default_rows a.id (reading_by a) values rows)) ≡ true
-      go true values = has
-      go false [] = has
-      go false (v ∷ vs) =
-          row_stays i a.id (more_values DefaultValue (v ∷ vs)) _ rows (λ r. or_false (bytes_eq r.id i)) has
-
-  default_made : is_empty a.defaults ≡ false → has_row a.id (with_default rows a) ≡ true
-  default_made some = go (has_row a.id rows) a.defaults refl some
-    where
-      go : (b : Bool) (values : List Text) → has_row a.id rows ≡ b → is_empty values ≡ false
-          → has_row a.id (cond b rows (default_rows a.id (reading_by a) values rows)) ≡ true
-      go true values e some = e
-      go false [] e some = absurd (cc)
-      go false (v ∷ vs) e some =
-          row_made a.id (more_values DefaultValue (v ∷ vs)) _ rows (λ r. or_false (bytes_eq r.id a.id))
-          (rw (has_id a.id) refl)
+    made : has_row a.id rows ≡ false → (values : List Text)
+        → (has_row i rows || (bytes_eq a.id i && not (is_empty values))) ≡ true
+        → has_row i (default_rows a.id (reading_by a) values rows) ≡ true
+    made none [] has = elim (or_cases (has_row i rows) (bytes_eq a.id i && false) has) [
+      | inl here ↦ here
+      | inr own ↦ absurd (false≢true (and_parts (bytes_eq a.id i) false own).1)
+    ]
+    made none (v ∷ vs) has =
+        rw (at_row_last a.id (more_values DefaultValue (v ∷ vs)) _ rows none)
+        (list_any-append (λ r. bytes_eq r.id i) rows _
+        ∙ (elim (or_cases (has_row i rows) (bytes_eq a.id i && not (is_empty (v ∷ vs))) has) [
+          | inl here ↦ rw here
+          | inr own ↦ or_right (has_row i rows) (bytes_eq a.id i || false) (rw (← same (not (is_empty (v ∷ vs))) own, has_id a.id))
+        ]))
 
 -- an argument of this id has default values
 abbrev pub has_default : Text → List Rule → Bool
-has_default i rules = list_any (λ a. bytes_eq a.id i && not (is_empty a.defaults)) rules
+has_default i rules = list_any (defaults_to i) rules
 
-defaults_keep : (i : Text) (rules : List Rule) (rows : List Row) → has_row i rows ≡ true
+pub default_given : (i : Text) (rules : List Rule) (rows : List Row) → (has_row i rows || has_default i rules) ≡ true
     → has_row i (fold with_default rows rules) ≡ true
-defaults_keep i [] rows has = has
-defaults_keep i (a ∷ rest) rows has = defaults_keep i rest (with_default rows a) (default_keeps a rows i has)
-
-pub default_given : (i : Text) (rules : List Rule) (rows : List Row) → has_default i rules ≡ true
-    → has_row i (fold with_default rows rules) ≡ true
-default_given i [] rows has = absurd (cc)
-default_given i (a ∷ rest) rows has =
-    go (bytes_eq a.id i) (is_empty a.defaults) refl refl has (default_given i rest (with_default rows a))
-  where
-    go : (b d : Bool) → bytes_eq a.id i ≡ b → is_empty a.defaults ≡ d → ((b && not d) || has_default i rest) ≡ true
-        → (has_default i rest ≡ true → has_row i (fold with_default (with_default rows a) rest) ≡ true)
-        → has_row i (fold with_default (with_default rows a) rest) ≡ true
-    go true false e some h later =
-        defaults_keep i rest (with_default rows a) (rw (← (bytes_eq-Decides a.id i).0 e) (default_made a rows some))
-    go b d e some h later = later h
+default_given i [] rows has = elim (or_cases (has_row i rows) false has) [ inl here ↦ here | inr none ↦ cc ]
+default_given i (a ∷ rest) rows has = default_given i rest (with_default rows a) (grind (arith, default_row i a rows))
 
 pub given_has_row : (i : Text) (rows : List Row) → is_given i rows ≡ true → has_row i rows ≡ true
-given_has_row i [] given = absurd (cc)
-given_has_row i (r ∷ rs) given = go (bytes_eq r.id i) given (given_has_row i rs)
+given_has_row i rows given = any_is_found (λ r. bytes_eq r.id i) rows ∙ is_there (find (λ r. bytes_eq r.id i) rows) given
   where
-    go : (b : Bool) → option_map_or (λ x. explicit_source x.source) (cond b (Some r) (find (λ x. bytes_eq x.id i) rs))
-        false ≡ true
-        → (is_given i rs ≡ true → has_row i rs ≡ true) → (b || has_row i rs) ≡ true
-    go true h rest = refl
-    go false h rest = rest h
+    is_there : (o : Option Row) → option_map_or (λ r. explicit_source r.source) o false ≡ true → is_some o ≡ true
+    is_there None given = cc
+    is_there (Some r) given = refl
 
 -- where no required argument is missing, each one is given
 pub required_given : (rows : List Row) (rules : List Rule) (i : Text) (a : Rule)
     → list_any (λ x. x.required && not (is_given x.id rows)) rules ≡ false
     → find (λ x. bytes_eq x.id i) rules ≡ Some a → a.required ≡ true → is_given i rows ≡ true
-required_given rows [] i a none is required = absurd (cc)
-required_given rows (x ∷ xs) i a none is required =
-    go (bytes_eq x.id i) refl x.required refl (is_given x.id rows) refl none is
-    (λ n s. required_given rows xs i a n s required)
-  where
-    go : (b : Bool) → bytes_eq x.id i ≡ b → (q : Bool) → x.required ≡ q → (g : Bool) → is_given x.id rows ≡ g
-        → ((q && not g) || list_any (λ y. y.required && not (is_given y.id rows)) xs) ≡ false
-        → cond b (Some x) (find (λ y. bytes_eq y.id i) xs) ≡ Some a
-        → (list_any (λ y. y.required && not (is_given y.id rows)) xs ≡ false → find (λ y. bytes_eq y.id i) xs ≡ Some a
-        → is_given i rows ≡ true)
-        → is_given i rows ≡ true
-    go true e q r true g h s rest = rw (← (bytes_eq-Decides x.id i).0 e) g
-    go b e true r false g h s rest = absurd (cc)
-    go true e false r false g h s rest = let one : x ≡ a = cc in absurd (cc (ap (λ r. r.required) one))
-    go false e true r true g h s rest = rest h s
-    go false e false r g d h s rest = rest h s
+required_given rows rules i a none is required =
+    let first = find_is (λ x. (x.required && not (is_given x.id rows)) ≡ false) (λ x. bytes_eq x.id i) rules a
+    (none_pass (λ x. x.required && not (is_given x.id rows)) rules none) is in
+    let same : a.id ≡ i = (bytes_eq-Decides a.id i).0 first.1 in
+    not-false (is_given i rows) (rw (required, same) at first.0)
 
 -- the row of an argument that is set holds a value of it
 pub filled : (c : List Rule) (rows : List Row) (i : Text) (a : Rule) → Suit c rows → has_row i rows ≡ true
     → arg_by_id c i ≡ Some a
     → action_of a ≡ action.Set → (r : Row) × (find (λ x. bytes_eq x.id i) rows ≡ Some r) × IsFilled a r
-filled c [] i a suit has is set = absurd (cc)
-filled c (r ∷ rs) i a suit has is set = go (bytes_eq r.id i) refl has (λ h. filled c rs i a suit.1 h is set)
+filled c rows i a suit has is set =
+    there (find (λ x. bytes_eq x.id i) rows) refl (sym (any_is_found (λ x. bytes_eq x.id i) rows) ∙ has)
   where
-    go : (b : Bool) → bytes_eq r.id i ≡ b → (b || has_row i rs) ≡ true
-        → (has_row i rs ≡ true → (q : Row) × (find (λ x. bytes_eq x.id i) rs ≡ Some q) × IsFilled a q)
-        → (q : Row) × (cond b (Some r) (find (λ x. bytes_eq x.id i) rs) ≡ Some q) × IsFilled a q
-    go true e h rest = (r, refl, suit.0 a (ap (arg_by_id c) ((bytes_eq-Decides r.id i).0 e) ∙ is) set)
-    go false e h rest = rest h
+    there : (o : Option Row) → find (λ x. bytes_eq x.id i) rows ≡ o → is_some o ≡ true
+        → (r : Row) × (o ≡ Some r) × IsFilled a r
+    there None first some = absurd (cc)
+    there (Some r) first some =
+        let own = find_is (Suits c) (λ x. bytes_eq x.id i) rows r suit first in
+        (r, refl, own.0 a (ap (arg_by_id c) ((bytes_eq-Decides r.id i).0 own.1) ∙ is) set)

@@ -1,9 +1,10 @@
 -- What holds at the end of clap's walk over the words where it finds no fault on the way.
-use Rattle.std.proofs.Common.{◌≡◌, ◌&&◌, ℕ, Bool, cond, codes, true, false, not, refl, zero, suc, List, []}
+use Rattle.std.proofs.Common.{inl, inr, ◌≡◌, ◌&&◌, ℕ, Bool, cond, codes, true, false, not, refl, zero, suc, List, []}
 use Rattle.std.proofs.Common.{◌∷◌, length, drop, Option, Some, None, is_some}
 use Rattle.std.specs.Prelude.{⊤, IfSome, encode_utf8, fold, slice_get}
 use Rattle.std.specs.Option.{option_map_or}
 use Rattle.std.specs.Str.{bytes_eq, chars}
+use Rattle.std.proofs.lemmas.Bool.{cases_Bool, cond_both}
 use Rattle.clap.specs.Faults.{bundle_fault, bundle_step_fault, flag_word_fault, flags_fault, long_fault, option_fault}
 use Rattle.clap.specs.Faults.{other_fault, positional_fault, react_fault, settle_fault, short_fault, step_fault}
 use Rattle.clap.specs.Faults.{stray_fault, turn_fault, use_fault, walk_fault, word_fault}
@@ -12,7 +13,7 @@ use Rattle.clap.specs.Lexer.{long_of, short_of}
 use Rattle.clap.specs.Simple.{Shape}
 use Rattle.clap.specs.Walk.{Held, Names, Outcome, Rule, Step, Text, Waiting, Walk, after_flag, after_step, arg_by_id}
 use Rattle.clap.specs.Walk.{arg_by_index, arg_by_long, arg_by_short, attached_value, bundle, bundle_met, bundle_step}
-use Rattle.clap.specs.Walk.{done, flag_met, has_long, has_short, idle, is_pending, long_met, long_or_other, next}
+use Rattle.clap.specs.Walk.{done, flag_met, has_long, has_short, is_pending, long_met, long_or_other, next}
 use Rattle.clap.specs.Walk.{option, option_met, option_word, plain, plain_word, reacted, settled}
 use Rattle.clap.specs.Walk.{short_met, short_or_plain, subcommand, subcommand_met, subcommand_or_other, takes_several}
 use Rattle.clap.specs.Walk.{takes_values, to_positional, trailing, value, waits, walked, walked_from, word_met}
@@ -22,22 +23,32 @@ use Rattle.words.proofs.Accepted.{used_suits}
 
 -- ---- one word
 
-plain_rows : (c : List Rule) (waiting : Waiting) (word : Text) (h : Held)
-    → (plain_word c waiting word h).0.rows ≡ h.rows
-plain_rows c (option id) word h = go (arg_by_id c id)
-  where
-    go : (o : Option Rule) → (option_word o id word h).0.rows ≡ h.rows
-    go None = refl
-    go (Some a) = refl
-plain_rows c waiting word h = refl
+-- the step enters no subcommand but one for which the test fails
+abbrev pub StepPasses : (Text → Bool) → Step → Type 0
+StepPasses p (subcommand name) = p name ≡ false
+StepPasses p _ = ⊤
 
-flag_rows : (c : List Rule) (waiting : Waiting) (word : Text) (h : Held) (out : Outcome)
-    → (after_flag c waiting word h out).0.rows ≡ h.rows
-flag_rows c waiting word h done = refl
-flag_rows c waiting word h (waits id) = refl
-flag_rows c waiting word h out = plain_rows c waiting word h
+-- what a word is, before it goes to a positional: its rows suit, and its step passes
+pub record IsMet (c : List Rule) (p : Text → Bool) (m : Held × Step) : Type 0 where
+  pub rows : Suit c m.0.rows
+  pub step : StepPasses p m.1
 
-module _ (c : List Rule) (again : Bool) (regular : AreRegular c c) where
+module _ (c : List Rule) (p : Text → Bool) where
+  plain_met : (waiting : Waiting) (word : Text) (h : Held) → Suit c h.rows → IsMet c p (plain_word c waiting word h)
+  plain_met (option id) word h suit = record { rows = go (arg_by_id c id); step = tt }
+    where
+      go : (o : Option Rule) → Suit c (option_word o id word h).0.rows
+      go None = suit
+      go (Some a) = suit
+  plain_met waiting word h suit = record { rows = suit; step = tt }
+
+  after_met : (waiting : Waiting) (word : Text) (h : Held) (out : Outcome) → Suit c h.rows
+      → IsMet c p (after_flag c waiting word h out)
+  after_met waiting word h done suit = record { rows = suit; step = tt }
+  after_met waiting word h (waits id) suit = record { rows = suit; step = tt }
+  after_met waiting word h out suit = plain_met waiting word h suit
+
+module _ (c : List Rule) (again : Bool) (regular : AreRegular c) where
   react_suits : (a : Rule) → IsRegular c a → (values : List Text) (h : Held) → react_fault c again a values h ≡ []
       → Suit c h.rows → Suit c (reacted c a values h).rows
   react_suits a own values h none suit =
@@ -66,15 +77,13 @@ module _ (c : List Rule) (again : Bool) (regular : AreRegular c c) where
       → ((g : Held) → more g ≡ [] → Suit c g.rows → Suit c (onward g).0.rows)
       → short_fault c again o rest h more ≡ [] → Suit c h.rows → Suit c (short_met c o rest h onward).0.rows
   short_suits None own rest h more onward later none suit = suit
-  short_suits (Some a) own rest h more onward later none suit = go (takes_values a) none
-    where
-      go : (b : Bool) → cond b (option_fault c again a (attached_value rest) h)
-          (or_else (react_fault c again a [] h) (more (reacted c a [] h))) ≡ []
-          → Suit c (cond b (option_met c a (attached_value rest) h) (onward (reacted c a [] h))).0.rows
-      go true none = option_suits a (own a refl) (attached_value rest) h none suit
-      go false none =
-          let each = none_of (react_fault c again a [] h) (more (reacted c a [] h)) none in
-          later (reacted c a [] h) each.1 (react_suits a (own a refl) [] h each.0 suit)
+  short_suits (Some a) own rest h more onward later none suit =
+      elim (cases_Bool (takes_values a)) [
+        | inl holds ↦ rw holds (option_suits a (own a refl) (attached_value rest) h (rw holds at none) suit)
+        | inr fails ↦ (
+            let each = none_of (react_fault c again a [] h) (more (reacted c a [] h)) (rw fails at none) in
+            rw fails (later (reacted c a [] h) each.1 (react_suits a (own a refl) [] h each.0 suit)))
+      ]
 
   flags_suit : (k : ℕ) (flags : Text) (skip : ℕ) (so_far : Outcome) (h : Held) → flags_fault c again k flags skip h ≡ []
       → Suit c h.rows → Suit c (bundle_met c k flags skip so_far h).0.rows
@@ -89,53 +98,25 @@ module _ (c : List Rule) (again : Bool) (regular : AreRegular c c) where
       step None skip none later = suit
       step (Some x) zero none later =
           let rest = drop (length (encode_utf8 x)) flags in
-          short_suits (arg_by_short c x) (λ a is. found c (λ r. not (is_some r.index) && has_short r x) c a regular is)
-          rest h (flags_fault c again k rest 0) (bundle_met c k rest 0 done)
+          short_suits (arg_by_short c x) (found c regular (λ r. not (is_some r.index) && has_short r x)) rest h
+          (flags_fault c again k rest 0) (bundle_met c k rest 0 done)
           (λ g n s. later rest 0 done g n s) none suit
       step (Some x) (suc skip) none later = later (drop (length (encode_utf8 x)) flags) skip so_far h none suit
 
   -- a word that is no subcommand and no `--`
-  other_suits : (o : Option (Text × Option Text)) (waiting : Waiting) (word : Text) (h : Held)
-      → flag_word_fault c again o word h ≡ [] → Suit c h.rows → Suit c (long_or_other c waiting word o h).0.rows
-  other_suits (Some p) waiting word h none suit =
-      rw (flag_rows c waiting word (long_met c (arg_by_long c p.0) p.1 h).0)
-      (long_suits (arg_by_long c p.0) (λ a is. found c (λ r. not (is_some r.index) && has_long r p.0) c a regular is)
-      p.1 h none suit)
-  other_suits None waiting word h none suit = go (short_of word) none
+  other_met : (p : Text → Bool) (o : Option (Text × Option Text)) (waiting : Waiting) (word : Text) (h : Held)
+      → flag_word_fault c again o word h ≡ [] → Suit c h.rows → IsMet c p (long_or_other c waiting word o h)
+  other_met p (Some q) waiting word h none suit =
+      after_met c p waiting word _ (long_met c (arg_by_long c q.0) q.1 h).1 (long_suits (arg_by_long c q.0)
+      (found c regular (λ r. not (is_some r.index) && has_long r q.0)) q.1 h none suit)
+  other_met p None waiting word h none suit = go (short_of word) none
     where
       go : (o : Option Text) → option_map_or (λ flags. bundle_fault c again flags h) o [] ≡ []
-          → Suit c (short_or_plain c waiting word o h).0.rows
-      go None none = rw (plain_rows c waiting word h) suit
+          → IsMet c p (short_or_plain c waiting word o h)
+      go None none = plain_met c p waiting word h suit
       go (Some flags) none =
-          rw (flag_rows c waiting word (bundle c flags h).0)
+          after_met c p waiting word _ (bundle c flags h).1
           (flags_suit (length flags) flags h.skip plain (record h { skip = 0 }) none suit)
-
--- ---- what is no subcommand
-
--- the step enters no subcommand but one for which the test fails
-abbrev pub StepPasses : (Text → Bool) → Step → Type 0
-StepPasses p (subcommand name) = p name ≡ false
-StepPasses p _ = ⊤
-
-module _ (p : Text → Bool) (c : List Rule) where
-  plain_step : (waiting : Waiting) (word : Text) (h : Held) → StepPasses p (plain_word c waiting word h).1
-  plain_step idle word h = tt
-  plain_step waiting word h = tt
-
-  flag_step : (waiting : Waiting) (word : Text) (h : Held) (out : Outcome)
-      → StepPasses p (after_flag c waiting word h out).1
-  flag_step waiting word h done = tt
-  flag_step waiting word h (waits id) = tt
-  flag_step waiting word h out = plain_step waiting word h
-
-  other_step : (o : Option (Text × Option Text)) (waiting : Waiting) (word : Text) (h : Held)
-      → StepPasses p (long_or_other c waiting word o h).1
-  other_step (Some q) waiting word h = flag_step waiting word _ (long_met c (arg_by_long c q.0) q.1 h).1
-  other_step None waiting word h = go (short_of word)
-    where
-      go : (o : Option Text) → StepPasses p (short_or_plain c waiting word o h).1
-      go None = plain_step waiting word h
-      go (Some flags) = flag_step waiting word _ (bundle c flags h).1
 
 -- ---- the walk
 
@@ -143,31 +124,23 @@ module _ (p : Text → Bool) (c : List Rule) where
 abbrev pub is_help : Shape → Text → Bool
 is_help s name = bytes_eq name (codes "help") && not s.disable_help_subcommand
 
-module _ (s : Shape) (regular : AreRegular s.rules s.rules) where
+module _ (s : Shape) (regular : AreRegular s.rules) where
   -- the rows suit, and the subcommand that was met is not `help`
   pub record Stands (w : Walk) : Type 0 where
     pub rows : Suit s.rules w.held.rows
     pub stopped : IfSome w.stopped (λ q. is_help s q.0 ≡ false)
 
-  -- a word, before it goes to a positional
-  pub record Met (m : Held × Step) : Type 0 where
-    pub rows : Suit s.rules m.0.rows
-    pub step : StepPasses (is_help s) m.1
-
   word_stands : (o : Option Text) (waiting : Waiting) (position : ℕ) (word : Text) (h : Held)
       → other_fault s o word h ≡ [] → Suit s.rules h.rows
-      → Met (subcommand_or_other s.rules o waiting position word h)
+      → IsMet s.rules (is_help s) (subcommand_or_other s.rules o waiting position word h)
   word_stands (Some name) waiting position word h none suit =
       record { rows = suit; step = none_where (is_help s name) kind.DisplayHelp (kind.InvalidSubcommand ∷ []) none }
-  word_stands None waiting position word h none suit = go (bytes_eq word (45 ∷ 45 ∷ [])) none
-    where
-      go : (b : Bool) → cond b [] (flag_word_fault s.rules s.args_override_self (long_of word) word h) ≡ []
-          → Met (cond b (h, trailing position) (long_or_other s.rules waiting word (long_of word) h))
-      go true none = record { rows = suit; step = tt }
-      go false none = record {
-        rows = other_suits s.rules s.args_override_self regular (long_of word) waiting word h none suit;
-        step = other_step (is_help s) s.rules (long_of word) waiting word h;
-      }
+  word_stands None waiting position word h none suit =
+      elim (cases_Bool (bytes_eq word (45 ∷ 45 ∷ []))) [
+        | inl holds ↦ rw holds (record { rows = suit; step = tt })
+        | inr fails ↦ rw fails (other_met s.rules s.args_override_self regular (is_help s) (long_of word) waiting word h
+            (rw fails at none) suit)
+      ]
 
   step_stands : (w : Walk) (word : Text) → w.stopped ≡ None → (h : Held) (step : Step)
       → step_fault s w.position h step ≡ []
@@ -181,25 +154,17 @@ module _ (s : Shape) (regular : AreRegular s.rules s.rules) where
           ≡ []
           → Stands (to_positional s.rules o word w h)
       go None none = record { rows = suit; stopped = rw going tt }
-      go (Some a) none = record { rows = held (is_pending a h.pending && takes_several a) none; stopped = tt }
-        where
-          held : (b : Bool) → cond b [] (settle_fault s.rules s.args_override_self h) ≡ []
-              → Suit s.rules (cond b h (settled s.rules h)).rows
-          held true none = suit
-          held false none = settled_suit s.rules s.args_override_self regular h none suit
+      go (Some a) none = record {
+        rows = cond_both (is_pending a h.pending && takes_several a) h (settled s.rules h) (λ g. Suit s.rules g.rows)
+            (λ _. suit) (λ fails. settled_suit s.rules s.args_override_self regular h (rw fails at none) suit);
+        stopped = tt;
+      }
 
   walked_stands : (names : Names) (w : Walk) (word : Text) → turn_fault s names w word ≡ [] → Stands w
       → Stands (walked s.rules names w word)
   unfolding walked
   walked_stands names w word none stands = go w.stopped refl none
     where
-      before : (b : Bool) → cond b [] (other_fault s (subcommand_met names w.waiting word) word w.held) ≡ []
-          → Met (cond b (w.held, value)
-          (subcommand_or_other s.rules (subcommand_met names w.waiting word) w.waiting w.position word w.held))
-      before true none = record { rows = stands.rows; step = tt }
-      before false none =
-          word_stands (subcommand_met names w.waiting word) w.waiting w.position word w.held none stands.rows
-
       go : (o : Option (Text × List Text)) → w.stopped ≡ o
           → cond (is_some o) [] (or_else (word_fault s names w.is_trailing w.waiting word w.held)
           (step_fault s w.position (word_met s.rules names w.is_trailing w.waiting w.position word w.held).0
@@ -211,7 +176,11 @@ module _ (s : Shape) (regular : AreRegular s.rules s.rules) where
       go None is none =
           let met = word_met s.rules names w.is_trailing w.waiting w.position word w.held in
           let each = none_of (word_fault s names w.is_trailing w.waiting word w.held) _ none in
-          let m = before w.is_trailing each.0 in
+          let other = subcommand_met names w.waiting word in
+          let m = cond_both w.is_trailing (w.held, value)
+          (subcommand_or_other s.rules other w.waiting w.position word w.held) (IsMet s.rules (is_help s))
+          (λ _. record { rows = stands.rows; step = tt })
+          (λ fails. word_stands other w.waiting w.position word w.held (rw fails at each.0) stands.rows) in
           step_stands w word is met.0 met.1 each.1 m.rows m.step
 
   pub walk_stands : (names : Names) (words : List Text) (w : Walk) → walk_fault s names w words ≡ [] → Stands w

@@ -3,5 +3,4 @@ mod Entered
 mod Parsed
 mod Requests
 mod Schedules
-mod Subcommands
 mod Values

@@ -1,13 +1,14 @@
 -- The subcommand that the words name where clap finds no fault in them, and what its matches hold.
-use Rattle.std.proofs.Common.{◌≡◌, ◌∙◌, ◌&&◌, ◌||◌, ◌⊎◌, ◌≤◌, ℕ, Bool, cond, codes, true, false, refl, sym, ap}
-use Rattle.std.proofs.Common.{inl, inr, List, [], ◌∷◌, Option, Some, None, is_some}
+use Rattle.std.proofs.Common.{◌≡◌, ◌∙◌, ◌&&◌, ◌||◌, ◌⊎◌, ◌≤◌, ℕ, Bool, cond, codes, true, false, refl, sym, ap, inl}
+use Rattle.std.proofs.Common.{inr, List, [], ◌∷◌, Option, Some, None, is_some, not}
 use Rattle.std.specs.Prelude.{IfSome, option_map}
 use Rattle.std.specs.Option.{option_map_or}
 use Rattle.std.specs.Str.{bytes_eq}
 use Rattle.std.specs.Str.Parse.{digits_value, without_leading_plus}
 use Rattle.std.proofs.lemmas.Slice.Eq.{bytes_eq-Decides}
 use Rattle.clap.specs.Facts.{unwrap_or_range}
-use Rattle.clap.specs.Faults.{entered_fault, fault_of, level_fault}
+use Rattle.clap.specs.Faults.{entered_fault, fault_of, level_fault, check_fault, defaults_fault, settle_fault}
+use Rattle.clap.specs.Faults.{walk_fault}
 use Rattle.clap.specs.Simple.{App, Shape, argument_words, built, built_leaf, entered, help_shape, inherited}
 use Rattle.clap.specs.Simple.{marked_built, names_of, rows_at, subcommand_of, with_leaf_noted}
 use Rattle.clap.specs.ValueTests.{accepts}
@@ -15,7 +16,8 @@ use Rattle.clap.specs.declared.builder.action.ArgAction.TheVariants.{Set}
 use Rattle.std.specs.List.{list_any}
 use Rattle.clap.proofs.WalkLemmas.{list_any-map}
 use Rattle.clap.proofs.ValueTestLemmas.{accepts-Accepts}
-use Rattle.clap.specs.Walk.{Row, Rule, Text, action_of, arg_by_id, nothing_held, rows_after, walk}
+use Rattle.clap.specs.Walk.{Row, Rule, Text, action_of, arg_by_id, nothing_held, rows_after, walk, Held, Names as SubcommandNames}
+use Rattle.clap.specs.Walk.{first_of, one_of, has_row, reading_by, settled, walk_from}
 use Rattle.clap.specs.declared.builder.value_parser.ValueParser.TheVariants.{Names, Unsigned}
 use Rattle.options.specs.declared.options.Merge.{Merge}
 use Rattle.options.specs.declared.options.Merge.TheVariants as merge
@@ -23,9 +25,91 @@ use Rattle.options.specs.Settings.{Settings}
 use Rattle.words.specs.Command as line
 use Rattle.words.specs.Command.{AreMerges, Choices, command_line}
 use Rattle.words.specs.Reading.{AreRead, HasText, MergeIs, NumberIs, OptionsAre}
-use Rattle.words.proofs.Accepted.{AreRegular, IsRegular, has_default}
-use Rattle.words.proofs.Entered.{is_help}
-use Rattle.words.proofs.Subcommands.{HasValue, below_passed, default_value, no_help, required_value}
+use Rattle.words.proofs.Accepted.{AreRegular, IsRegular, has_default, Suit, default_given, defaults_suit, filled}
+use Rattle.words.proofs.Accepted.{given_has_row, none_of, required_given, settled_suit}
+use Rattle.words.proofs.Entered.{is_help, Stands, walk_stands}
+use Rattle.std.proofs.lemmas.Bool.{or_right}
+use Rattle.clap.specs.Kinds.{Kinds, check_kinds}
+use Rattle.clap.specs.Takes.{is_given, value_passes}
+use Rattle.clap.specs.Values.{read_as}
+
+-- ---- what the matches of a subcommand hold
+
+-- an argument has a value, which its parser takes
+pub record HasValue (a : Rule) (id : Text) (rows : List Row) : Type 0 where
+  pub text : Text
+  pub first : first_of id rows ≡ Some text
+  pub one : one_of id rows ≡ Some (read_as (reading_by a) text)
+  pub passes : value_passes a text ≡ true
+
+none_wanted : (help subcommand argument : Bool) → check_kinds help subcommand argument ≡ [] → (subcommand ≡ false)
+    × (argument ≡ false)
+none_wanted false false false h = (refl, refl)
+none_wanted help subcommand argument h = absurd (cc)
+
+module _ (s : Shape) (names : SubcommandNames) (words : List Text) (has : Bool) (below : Kinds)
+    (none : level_fault s names nothing_held words has below ≡ []) where
+  -- what is held at the end of the walk
+  abbrev end : Held
+  end = (walk s.rules names nothing_held words).held
+
+  -- the walk, the level below, and each test after them have no fault
+  parts : (walk_fault s names (walk_from nothing_held) words ≡ []) × (below ≡ [])
+      × (settle_fault s.rules s.args_override_self end ≡ [])
+      × (defaults_fault (settled s.rules end).rows s.rules ≡ [])
+      × (check_fault s (rows_after s.rules names words) has ≡ [])
+  parts =
+      let walked = none_of (walk_fault s names (walk_from nothing_held) words) _ none in
+      let under = none_of below _ walked.1 in
+      let ended = none_of (settle_fault s.rules s.args_override_self end) _ under.1 in
+      let last = none_of (defaults_fault (settled s.rules end).rows s.rules) _ ended.1 in
+      (walked.0, under.0, ended.0, last.0, last.1)
+
+  -- the level below has no fault
+  pub below_passed : below ≡ []
+  below_passed = parts.1
+
+  module _ (regular : AreRegular s.rules) where
+    stands : Stands s regular (walk s.rules names nothing_held words)
+    stands = walk_stands s regular names words (walk_from nothing_held) parts.0 (record { rows = tt; stopped = tt })
+
+    -- the subcommand that was met is not `help`
+    pub no_help : IfSome (walk s.rules names nothing_held words).stopped (λ q. is_help s q.0 ≡ false)
+    no_help = stands.stopped
+
+    -- the rows at the end
+    abbrev rows : List Row
+    rows = rows_after s.rules names words
+
+    -- an argument that is set has a value, if it has a row
+    has_value : (id : Text) (a : Rule) → has_row id rows ≡ true → arg_by_id s.rules id ≡ Some a → action_of a ≡ Set
+        → HasValue a id rows
+    has_value id a has is set =
+        let suit : Suit s.rules rows = defaults_suit s.rules s.args_override_self regular s.rules
+        (settled s.rules end).rows regular parts.3
+        (settled_suit s.rules s.args_override_self regular end parts.2 stands.rows) in
+        let (r, found, value) = filled s.rules rows id a suit has is set in record {
+          text = value.text;
+          first = rw found value.first;
+          one = rw found (rw (value.first, value.reading) refl);
+          passes = value.passes;
+        }
+
+    -- an argument that is required, or has a default, has a value
+    pub required_value : s.subcommand_negates_reqs ≡ false → (id : Text) (a : Rule) → arg_by_id s.rules id ≡ Some a
+        → action_of a ≡ Set → a.required ≡ true → HasValue a id rows
+    required_value kept id a is set required =
+        let argument = (none_wanted _ (not has && s.subcommand_required) _ parts.4).1 in
+        let missing : list_any (λ x. x.required && not (is_given x.id rows)) s.rules ≡ false = rw kept at argument in
+        has_value id a (given_has_row id rows (required_given rows s.rules id a missing is required)) is set
+
+    pub default_value : (id : Text) (a : Rule) → arg_by_id s.rules id ≡ Some a → action_of a ≡ Set
+        → has_default id s.rules ≡ true → HasValue a id rows
+    default_value id a is set default =
+        has_value id a (default_given id s.rules (settled s.rules end).rows
+        (or_right (has_row id (settled s.rules end).rows) (has_default id s.rules) default)) is set
+
+-- ---- the subcommand that was met
 
 -- the words after the subcommand's name have no fault, and its matches are these
 pub record IsPassed (s : Shape) (name : Text) (rows : List Row) : Type 0 where
@@ -41,7 +125,7 @@ passed s words name rows is none =
     record { words = words; named = sym (ap (λ p. p.0) same); are = sym (ap (λ p. p.1) same); none = none }
 
 -- what the matches of such a subcommand hold
-module _ {s : Shape} {name : Text} {rows : List Row} (is : IsPassed s name rows) (regular : AreRegular s.rules s.rules)
+module _ {s : Shape} {name : Text} {rows : List Row} (is : IsPassed s name rows) (regular : AreRegular s.rules)
     (id : Text) (a : Rule) (found : arg_by_id s.rules id ≡ Some a) (set : action_of a ≡ Set) where
   required : s.subcommand_negates_reqs ≡ false → a.required ≡ true → HasValue a id rows
   required kept needed =
@@ -81,7 +165,7 @@ module _ (choices : Choices) where
   abbrev check_leaf : Shape
   check_leaf = leaf line.check.top
 
-  regular : AreRegular all.top.rules all.top.rules
+  regular : AreRegular all.top.rules
   regular = (record { own = refl; valued = λ set. absurd (cc) }, tt)
 
   -- an argument with one value, and a flag, before others
@@ -93,15 +177,15 @@ module _ (choices : Choices) where
       → IsRegular c a × Others
   flag own not others = (record { own = own; valued = λ set. absurd (not set) }, others)
 
-  explore_regular : AreRegular explore_leaf.rules explore_leaf.rules
+  explore_regular : AreRegular explore_leaf.rules
   explore_regular =
       valued refl refl (valued refl refl (valued refl refl (valued refl refl (valued refl refl
       (flag refl (λ set. cc) (valued refl refl (flag refl (λ set. cc) tt)))))))
 
-  replay_regular : AreRegular replay_leaf.rules replay_leaf.rules
+  replay_regular : AreRegular replay_leaf.rules
   replay_regular = valued refl refl (valued refl refl (flag refl (λ set. cc) tt))
 
-  check_regular : AreRegular check_leaf.rules check_leaf.rules
+  check_regular : AreRegular check_leaf.rules
   check_regular = valued refl refl (valued refl refl (flag refl (λ set. cc) tt))
 
   -- ---- the subcommand that the words name

@@ -1,6 +1,6 @@
--- What lines are refused for: one thing at most, and nothing where they pass.
+-- What lines, and the bytes of a book file, are refused for: one thing at most, and nothing where they pass.
 use Rattle.std.proofs.Common.{◌≡◌, ℕ, inl, inr, List, [], ◌∷◌, ◌++◌, sym}
-use Rattle.std.proofs.Common.{◌∙◌}
+use Rattle.std.proofs.Common.{◌∙◌, ap}
 use Rattle.std.proofs.lemmas.Bool.{cases_order}
 use Rattle.std.proofs.lemmas.Option.{slice_get_past}
 use Rattle.sched_program.specs.Program.{Program}
@@ -10,11 +10,13 @@ use Rattle.tree_machine.specs.Step.{start}
 use Rattle.tree_machine.specs.declared.state.State.{State}
 use Rattle.replay.specs.declared.file.line.BookLine.{BookLine}
 use Rattle.replay.specs.declared.file.fault.CheckFault.{CheckFault}
+use Rattle.replay.specs.declared.file.fault.CheckFault.TheVariants.{Form}
 use Rattle.replay.specs.BookFile.Replays.{IsShown, IsUnshown, Reaches, Tells, IsAmiss, Continues, FirstAmiss}
 use Rattle.replay.specs.BookFile.Replays.{AreReplayed, IsFirstAmiss}
 use Rattle.replay.specs.BookFile.Closing.{IsFirstOpen}
-use Rattle.replay.specs.BookFile.Checks.{Pass, AreRefused}
+use Rattle.replay.specs.BookFile.Checks.{Pass, AreRefused, PassAs, IsRefusedFor}
 use Rattle.replay.proofs.Either.{AtMostOne, one_of_either}
+use Rattle.replay.proofs.Text.OneReading.{same_book, not_both, same_misformed}
 
 module _ {Machine Memory Place Form : Type 0} (rules : Rules Memory Place) (program : Program) where
   -- a state that an order shows has nothing unshown
@@ -120,3 +122,22 @@ module _ (Machine Form : Type 0) {Memory Place : Type 0} (rules : Rules Memory P
       let is : IsFirstOpen rules program pass.0 f = rw (one_replayed pass.0 a.0 pass.1 a.1) a.2 in
       let out = is.leads_out in
       out.3 (pass.2.steps is.index out.0 is.state out.1 is.at out.2)
+
+-- the bytes of a book file
+module _ (Machine MachineForm : Type 0) {Memory Place : Type 0} (rules : Rules Memory Place) (program : Program)
+    (bytes : List ℕ) where
+  -- for one thing at most
+  pub one_refusal_of_bytes : AtMostOne (IsRefusedFor Machine MachineForm rules program bytes)
+  one_refusal_of_bytes =
+      one_of_either (λ f g a b. a.1 ∙ ap Form (same_misformed bytes a.0 b.0 a.2 b.2) ∙ sym b.1)
+      (λ f g a b. one_refusal Machine MachineForm rules program a.0 f g a.2
+      (rw (same_book bytes a.0 b.0 a.1 b.1) b.2))
+      (λ f g a b. not_both bytes b.0 a.0 b.1 a.2)
+
+  -- and for nothing where they pass
+  pub passing_bytes : (entries : ℕ) (f : CheckFault) → PassAs Machine MachineForm rules program bytes entries
+      → IsRefusedFor Machine MachineForm rules program bytes f → ⊥
+  passing_bytes entries f pass (inl a) = not_both bytes pass.0 a.0 pass.1 a.2
+  passing_bytes entries f pass (inr a) =
+      pass_not_refused Machine MachineForm rules program pass.0 f pass.2
+      (rw (same_book bytes pass.0 a.0 pass.1 a.1) a.2)

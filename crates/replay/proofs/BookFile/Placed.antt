@@ -1,14 +1,15 @@
 -- Labels of which equal ones are stored once.
-use Rattle.std.proofs.Common.{◌≡◌, ◌↔◌, ℕ, zero, suc, ◌<◌, ◌≤◌, inl, inr, get_or, Bool, true, false, cond, Some}
+use Rattle.std.proofs.Common.{◌≡◌, ◌↔◌, ℕ, suc, ◌<◌, ◌≤◌, inl, inr, get_or, Bool, true, cond, Some}
 use Rattle.std.proofs.Common.{List, [], ◌∷◌, ◌++◌, length, append-nil, Contains, refl, sym, ap, ◌∙◌, arith, slice_get}
 use Rattle.std.specs.List.{list_any}
 use Rattle.std.specs.Cmp.{IsEquivalence}
+use Rattle.std.proofs.lemmas.Bool.{cases_cond}
 use Rattle.std.proofs.lemmas.List.{length-append, get_or_append_left, map-append}
 use Rattle.std.proofs.lemmas.List.Elements.{Contains-append_left, Contains-append_right, Contains-append_cases}
 use Rattle.std.proofs.lemmas.Map.Views.{list_any-from_Contains}
 use Rattle.std.proofs.lemmas.Option.{get_or_from_slice_get, slice_get-get_or, slice_get_within}
 use Rattle.indexmap.proofs.CallerLemmas.{Contains-list_any}
-use Rattle.lin.proofs.Lists.{Contains-slice_get, slice_get-Contains}
+use Rattle.lin.proofs.Lists.{Contains-cases, Contains-slice_get, not-Contains-nil, slice_get-Contains}
 use Rattle.sched_program.specs.Exact.{IsExact}
 use Rattle.tree_machine.proofs.Lists.{get-map}
 use Rattle.replay.specs.BookFile.Places.{labels_at, ArePlaced}
@@ -47,38 +48,33 @@ module _ (distinct tail : List (List ℕ)) (places : List ℕ) (label : List ℕ
     bounded = omega (arith, length-append distinct tail, length-append places (place ∷ []), so.bounded);
   }
 
-only_one : (label l : List ℕ) → Contains (label ∷ []) l → l ≡ label
-only_one label l h = by h.0 h.1 h.2
-  where
-    by : (k : ℕ) → k < 1 → get_or (label ∷ []) k l ≡ l → l ≡ label
-    by zero less is = sym is
-    by (suc k) less is = absurd (omega arith)
-
 -- a label is put in, unless it is there
-pub label_put : (distinct more : List (List ℕ)) (places : List ℕ) (label : List ℕ) (place : ℕ) (there : Bool)
+pub label_put : {distinct more : List (List ℕ)} {places : List ℕ} {label : List ℕ} (place : ℕ) (there : Bool)
     → more ≡ cond there distinct (distinct ++ label ∷ []) → ArePlaced distinct places
     → slice_get more place ≡ Some label
     → ArePlaced more (places ++ place ∷ [])
     × (labels_at more (places ++ place ∷ []) ≡ labels_at distinct places ++ label ∷ [])
-label_put distinct more places label place there is so at = by there is
+label_put {distinct} {more} {places} {label} place there is so at =
+    elim (cases_cond there distinct (distinct ++ label ∷ []) more is) [
+      | inl same ↦ behind [] (λ l none. absurd (not-Contains-nil l none)) (omega arith)
+          (append-nil distinct ∙ sym same)
+      | inr same ↦ behind (label ∷ []) only_one (omega arith) (sym same)
+    ]
   where
-    Put : List (List ℕ) → Type 0
-    Put new = ArePlaced new (places ++ place ∷ [])
-        × (labels_at new (places ++ place ∷ []) ≡ labels_at distinct places ++ label ∷ [])
+    only_one : (l : List ℕ) → Contains (label ∷ []) l → l ≡ label
+    only_one l has =
+        elim (Contains-cases label [] l has) [ inl one ↦ sym one | inr none ↦ absurd (not-Contains-nil l none) ]
 
     behind : (tail : List (List ℕ)) → ((l : List ℕ) → Contains tail l → l ≡ label) → length tail ≤ 1
-        → distinct ++ tail ≡ more → Put more
+        → distinct ++ tail ≡ more
+        → ArePlaced more (places ++ place ∷ [])
+        × (labels_at more (places ++ place ∷ []) ≡ labels_at distinct places ++ label ∷ [])
     behind tail only one same =
         let here : slice_get (distinct ++ tail) place ≡ Some label = rw same at in
         rw (← same) (
           placed distinct tail places label place so here only one,
           seen distinct tail places label place so here only one,
         )
-
-    by : (b : Bool) → more ≡ cond b distinct (distinct ++ label ∷ []) → Put more
-    by true e = behind [] (λ l h. let less : h.0 < 0 = h.1 in absurd (omega arith)) (omega arith)
-        (append-nil distinct ∙ sym e)
-    by false e = behind (label ∷ []) (only_one label) (omega arith) (sym e)
 
 module _ (eq : List ℕ → List ℕ → Bool) (laws : IsEquivalence eq) (exact : IsExact eq)
     (distinct : List (List ℕ)) (places : List ℕ) (so : ArePlaced distinct places) where

@@ -64,46 +64,47 @@ module _ {Machine Memory Place Form : Type 0} (rules : Rules Memory Place) (prog
       let w = get_at states index within in
       record { here = w.0; there = w.0; is_here = w.1; is_there = w.1; leads = refl }
 
-  module _ (lines : List BookLine) (states : List (State Machine Memory Place Form))
-      (so : AreReplayed rules program lines states) where
-    -- the state that a line tells
-    pub told_by : (k : ℕ) (line : BookLine) → slice_get lines k ≡ Some line
-        → (s : State Machine Memory Place Form) × (slice_get states (suc k) ≡ Some s) × IsStepBy states (suc k) line s
-    told_by k line at =
-        let place : suc k ≡ 1 + k = omega arith in
-        rw place (step_behind (start rules program ∷ []) lines states so.1 k line at)
+  -- the state that a line tells
+  pub told_by : (lines : List BookLine) (states : List (State Machine Memory Place Form))
+      → AreReplayed rules program lines states → (k : ℕ) (line : BookLine) → slice_get lines k ≡ Some line
+      → (s : State Machine Memory Place Form) × (slice_get states (suc k) ≡ Some s) × IsStepBy states (suc k) line s
+  told_by lines states so k line at =
+      let place : suc k ≡ 1 + k = omega arith in
+      rw place (step_behind (start rules program ∷ []) lines states so.1 k line at)
 
-    -- behind the start each state has a line
-    pub has_line : (at : ℕ) → 0 < at → (way : List ℕ) (index : ℕ) → LeadsTo states at way index → at - 1 < length lines
-    has_line at later way index so_far =
-        let many = count_states rules program lines states so in
-        omega (arith, slice_get_within states at so_far.here so_far.is_here, many)
+-- a way that is gone back so far, along lines
+module _ {Machine Memory Place Form : Type 0} {rules : Rules Memory Place} {program : Program} (lines : List BookLine)
+    {states : List (State Machine Memory Place Form)} (so : AreReplayed rules program lines states) {at index : ℕ} where
+  -- behind the start each state has a line
+  pub has_line : {way : List ℕ} → 0 < at → LeadsTo rules program states at way index → at - 1 < length lines
+  has_line later so_far =
+      let many = count_states rules program lines states so in
+      omega (arith, slice_get_within states at so_far.here so_far.is_here, many)
 
-    -- one step back along the way
-    pub one_back : (at : ℕ) → 0 < at → (noted : List ℕ) (index : ℕ) → LeadsTo states at (reverse noted) index
-        → (line : BookLine) → slice_get lines (at - 1) ≡ Some line
-        → (line.parent < at) × LeadsTo states line.parent (reverse (noted ++ line.thread ∷ [])) index
-    one_back zero later noted index so_far line is = absurd (omega arith)
-    one_back (suc k) later noted index so_far line is =
-        let e : suc k - 1 ≡ k = omega arith in
-        let (here, at, by) = told_by k line (rw e at is) in
-        let same : here ≡ so_far.here = cc in (
-          by.earlier,
-          record {
-            here = by.parent;
-            there = so_far.there;
-            is_here = by.at;
-            is_there = so_far.is_there;
-            leads = rw (reverse-append noted (line.thread ∷ []), by.step, same) so_far.leads;
-          },
-        )
+  -- one step back
+  pub one_back : 0 < at → (noted : List ℕ) → LeadsTo rules program states at (reverse noted) index
+      → (line : BookLine) → slice_get lines (at - 1) ≡ Some line
+      → (line.parent < at) × LeadsTo rules program states line.parent (reverse (noted ++ line.thread ∷ [])) index
+  one_back later noted so_far line is =
+      let behind : suc (at - 1) ≡ at = omega arith in
+      let (here, told, by) = rw behind at (told_by rules program lines states so (at - 1) line is) in
+      let same : here ≡ so_far.here = cc in (
+        by.earlier,
+        record {
+          here = by.parent;
+          there = so_far.there;
+          is_here = by.at;
+          is_there = so_far.is_there;
+          leads = rw (reverse-append noted (line.thread ∷ []), by.step, same) so_far.leads;
+        },
+      )
 
-    -- it ends at the start
-    pub from_start : (at : ℕ) → at ≤ 0 → (way : List ℕ) (index : ℕ) → LeadsTo states at way index
-        → (s : State Machine Memory Place Form) × (slice_get states index ≡ Some s)
-        × (after (machine_of rules program) way ≡ Some s)
-    from_start at least way index so_far =
-        let zeroth : at ≡ 0 = omega arith in
-        let first = front rules program (start rules program ∷ []) lines states so.1 0 (start rules program) refl in
-        let same : start rules program ≡ so_far.here = cc in
-        (so_far.there, so_far.is_there, rw same so_far.leads)
+  -- it ends at the start
+  pub from_start : at ≤ 0 → (way : List ℕ) → LeadsTo rules program states at way index
+      → (s : State Machine Memory Place Form) × (slice_get states index ≡ Some s)
+      × (after (machine_of rules program) way ≡ Some s)
+  from_start least way so_far =
+      let zeroth : at ≡ 0 = omega arith in
+      let first = front rules program (start rules program ∷ []) lines states so.1 0 (start rules program) refl in
+      let same : start rules program ≡ so_far.here = cc in
+      (so_far.there, so_far.is_there, rw same so_far.leads)

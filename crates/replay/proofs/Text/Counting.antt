@@ -16,9 +16,9 @@ pub record HasCounted (bytes : List ℕ) (count : ℕ) (is_ended : Bool) : Type 
   pub counted : length texts ≡ count
   pub ends : MatchBool is_ended (rest ≡ []) (1 ≤ length rest)
 
-pub counted_feed : (bytes : List ℕ) (count : ℕ) (is_ended : Bool) (b : ℕ) → HasCounted bytes count is_ended → b ≡ 10
+pub counted_feed : {bytes : List ℕ} {count b : ℕ} {is_ended : Bool} → HasCounted bytes count is_ended → b ≡ 10
     → HasCounted (bytes ++ b ∷ []) (count + 1) true
-counted_feed bytes count is_ended b has is = record {
+counted_feed {b} has is = record {
   texts = has.texts ++ has.rest ∷ [];
   rest = [];
   whole = ap (λ (l : List ℕ). l ++ b ∷ []) has.whole ∙ ap (λ (x : ℕ). (ended has.texts ++ has.rest) ++ x ∷ []) is
@@ -30,9 +30,9 @@ counted_feed bytes count is_ended b has is = record {
   ends = refl;
 }
 
-pub counted_other : (bytes : List ℕ) (count : ℕ) (is_ended : Bool) (b : ℕ) → HasCounted bytes count is_ended → b ≢ 10
+pub counted_other : {bytes : List ℕ} {count b : ℕ} {is_ended : Bool} → HasCounted bytes count is_ended → b ≢ 10
     → HasCounted (bytes ++ b ∷ []) count false
-counted_other bytes count is_ended b has other = record {
+counted_other {b} has other = record {
   texts = has.texts;
   rest = has.rest ++ b ∷ [];
   whole = ap (λ (l : List ℕ). l ++ b ∷ []) has.whole ∙ append_assoc (ended has.texts) has.rest (b ∷ []);
@@ -58,9 +58,9 @@ no_rest (text ∷ texts) (other ∷ others) rest e bare also none =
     (e ∙ append_assoc text (10 ∷ ended texts) rest) also.0 feed_fails bare.0 feed_fails in
     no_rest texts others rest same.2 bare.1 also.1 none
 
-pub counted_no_lines : (bytes : List ℕ) (count : ℕ) → HasCounted bytes count false → (texts : List (List ℕ))
+pub counted_no_lines : {bytes : List ℕ} {count : ℕ} → HasCounted bytes count false → (texts : List (List ℕ))
     → ¬ AreLines bytes texts
-counted_no_lines bytes count has texts are =
+counted_no_lines has texts are =
     let none : has.rest ≡ [] =
     no_rest has.texts texts has.rest (sym are.whole ∙ has.whole) has.bare are.bare has.rest_bare in
     omega (arith, has.ends, ap length none)

@@ -48,9 +48,9 @@ same_ended (text ∷ texts) (other ∷ others) e bare also =
     cc (same.0, same_ended texts others same.2 bare.1 also.1)
 
 -- the bytes are lines in one way only
-pub same_lines : (bytes : List ℕ) (texts others : List (List ℕ)) → AreLines bytes texts → AreLines bytes others
+pub same_lines : {bytes : List ℕ} {texts others : List (List ℕ)} → AreLines bytes texts → AreLines bytes others
     → texts ≡ others
-same_lines bytes texts others are also = same_ended texts others (sym are.whole ∙ also.whole) are.bare also.bare
+same_lines are also = same_ended _ _ (sym are.whole ∙ also.whole) are.bare also.bare
 
 pub all_append : {A : Type 0} (P : A → Type 0) (xs ys : List A) → AllByRecursion P xs → AllByRecursion P ys
     → AllByRecursion P (xs ++ ys)
@@ -73,21 +73,21 @@ abbrev pub NextLine : List ℕ → List ℕ → List (List ℕ) → Type 0
 NextLine text tail texts = (later : List (List ℕ)) × (texts ≡ text ∷ later) × AreLines tail later
 
 -- where lines have a first line feed, the first line comes before it
-pub next_line : (bytes text tail : List ℕ) (texts : List (List ℕ)) → AreLines bytes texts → bytes ≡ text ++ 10 ∷ tail
+pub next_line : {bytes text tail : List ℕ} {texts : List (List ℕ)} → AreLines bytes texts → bytes ≡ text ++ 10 ∷ tail
     → AllByRecursion (λ b. b ≢ 10) text
     → NextLine text tail texts
-next_line bytes text tail [] are e bare = absurd (not_nil text 10 tail (sym are.whole ∙ e))
-next_line bytes text tail (first ∷ later) are e bare =
+next_line {text = text} {tail = tail} {texts = []} are e bare = absurd (not_nil text 10 tail (sym are.whole ∙ e))
+next_line {text = text} {tail = tail} {texts = first ∷ later} are e bare =
     let same =
     same_cut (λ b. b ≢ 10) first 10 (ended later) text 10 tail (sym are.whole ∙ e) are.bare.0 feed_fails bare
     feed_fails in
     (later, ap (λ (t : List ℕ). t ∷ later) same.0, record { whole = sym same.2; bare = are.bare.1 })
 
 -- bytes without a line feed are no lines
-pub no_line : (bytes : List ℕ) (texts : List (List ℕ)) → AreLines bytes texts → AllByRecursion (λ b. b ≢ 10) bytes
+pub no_line : {bytes : List ℕ} {texts : List (List ℕ)} → AreLines bytes texts → AllByRecursion (λ b. b ≢ 10) bytes
     → texts ≡ []
-no_line bytes [] are bare = refl
-no_line bytes (first ∷ later) are bare =
+no_line {texts = []} are bare = refl
+no_line {bytes} {texts = first ∷ later} are bare =
     absurd (no_cut (λ b. b ≢ 10) bytes first 10 (ended later) are.whole bare feed_fails)
 
 pub ended_append : (texts others : List (List ℕ)) → ended (texts ++ others) ≡ ended texts ++ ended others

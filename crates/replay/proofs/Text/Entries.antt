@@ -35,16 +35,16 @@ pub record HasReadLines (bytes : List ℕ) (lines : List BookLine) (rest : List 
   pub each : AllZip IsEntryLine done lines
   pub bounded : length (done ++ ahead) < 2000000
 
-pub lines_none : (bytes : List ℕ) (texts : List (List ℕ)) → AreLines bytes texts → length texts < 2000000
+pub lines_none : {bytes : List ℕ} {texts : List (List ℕ)} → AreLines bytes texts → length texts < 2000000
     → HasReadLines bytes [] bytes
-lines_none bytes texts are bounded =
+lines_none {texts = texts} are bounded =
     record { done = []; ahead = texts; whole = are; left = are; each = tt; bounded = bounded }
 
-pub lines_push : (bytes : List ℕ) (lines : List BookLine) (rest text tail : List ℕ) (line : BookLine)
+pub lines_push : {bytes rest text tail : List ℕ} {lines : List BookLine} {line : BookLine}
     → HasReadLines bytes lines rest → rest ≡ text ++ 10 ∷ tail
     → AllByRecursion (λ b. b ≢ 10) text → IsEntryLine text line → HasReadLines bytes (lines ++ line ∷ []) tail
-lines_push bytes lines rest text tail line has e bare is =
-    let (later, split, left) = next_line rest text tail has.ahead has.left e bare in
+lines_push {text = text} {lines = lines} {line = line} has e bare is =
+    let (later, split, left) = next_line has.left e bare in
     let same : has.done ++ has.ahead ≡ (has.done ++ text ∷ []) ++ later =
     (λ j. has.done ++ split j) ∙ sym (append_assoc has.done (text ∷ []) later) in
     record {
@@ -56,18 +56,16 @@ lines_push bytes lines rest text tail line has e bare is =
       bounded = rw same at has.bounded;
     }
 
-pub lines_all : (bytes : List ℕ) (lines : List BookLine) (rest : List ℕ) → HasReadLines bytes lines rest
+pub lines_all : {bytes rest : List ℕ} {lines : List BookLine} → HasReadLines bytes lines rest
     → AllByRecursion (λ b. b ≢ 10) rest
     → (texts : List (List ℕ)) × AreLines bytes texts × AllZip IsEntryLine texts lines
-lines_all bytes lines rest has bare =
-    let none : has.ahead ≡ [] = no_line rest has.ahead has.left bare in
-    (has.done, rw (none, append-nil has.done) at has.whole, has.each)
+lines_all has bare = (has.done, rw (no_line has.left bare, append-nil has.done) at has.whole, has.each)
 
-pub lines_fault : (bytes : List ℕ) (lines : List BookLine) (rest text tail : List ℕ) → HasReadLines bytes lines rest
+pub lines_fault : {bytes rest text : List ℕ} {lines : List BookLine} (tail : List ℕ) → HasReadLines bytes lines rest
     → rest ≡ text ++ 10 ∷ tail
     → AllByRecursion (λ b. b ≢ 10) text → ¬ IsEntryText text → IsEntriesFault bytes (Form (length lines + 3))
-lines_fault bytes lines rest text tail has e bare not =
-    let (later, split, left) = next_line rest text tail has.ahead has.left e bare in (
+lines_fault {text = text} {lines = lines} tail has e bare not =
+    let (later, split, left) = next_line has.left e bare in (
       has.done,
       text,
       later,

@@ -1,5 +1,5 @@
 -- The number that digits are, read from the first on.
-use Rattle.std.proofs.Common.{◌≡◌, ℕ, ◌+◌, ◌-◌, ◌*◌, ◌<◌, ◌≤◌, ◌⊎◌, min, List, length, get_or, take, refl, subst, arith}
+use Rattle.std.proofs.Common.{◌≡◌, ℕ, ◌+◌, ◌-◌, ◌*◌, ◌<◌, ◌≤◌, ◌⊎◌, min, List, length, get_or, take, refl, arith}
 use Rattle.std.proofs.Common.{inl, inr}
 use Rattle.std.proofs.lemmas.List.{take_all}
 use Rattle.std.proofs.lemmas.Str.{digit_value_digit}
@@ -17,32 +17,25 @@ pub record HasRead (text : List ℕ) (i value most : ℕ) : Type 0 where
 pub read_none : (text : List ℕ) (most : ℕ) → HasRead text 0 0 most
 read_none text most = record { digits = tt; is = omega arith }
 
-capped_more : (total most digit value next whole : ℕ) → value ≡ min total most → whole ≡ total * 10 + digit
-    → next ≡ min (value * 10 + digit) most
-    → next ≡ min whole most
-capped_more total most digit value next whole is more step = omega arith
-
-pub read_digit : (text : List ℕ) (i value most next : ℕ) → HasRead text i value most → i < length text
+pub read_digit : {text : List ℕ} {i value most next : ℕ} → HasRead text i value most → i < length text
     → 48 ≤ get_or text i 0 → get_or text i 0 ≤ 57 → next ≡ min (value * 10 + (get_or text i 0 - 48)) most
     → HasRead text (i + 1) next most
-read_digit text i value most next has less low high step =
+read_digit {text} {i} has less low high step =
     let digit : digit_value (get_or text i 0) ≡ get_or text i 0 - 48 =
     omega (arith, digit_value_digit (get_or text i 0) (low, high)) in
     record {
       digits = digits_more 10 text i less has.digits (omega arith);
-      is = capped_more (digits_value 10 (take i text)) most (get_or text i 0 - 48) value next
-          (digits_value 10 (take (i + 1) text)) has.is
-          (omega (arith, digits_value_more 10 text i less)) step;
+      is = omega (arith, has.is, digits_value_more 10 text i less);
     }
 
-pub read_number : (text : List ℕ) (i value most : ℕ) → HasRead text i value most → length text ≤ i → 1 ≤ length text
+pub read_number : {text : List ℕ} {i value most : ℕ} → HasRead text i value most → length text ≤ i → 1 ≤ length text
     → (get_or text 0 0 ≡ 48 → length text ≡ 1)
     → (number : ℕ) × IsNumber text number × (value ≡ min number most)
-read_number text i value most has all some first =
+read_number {text} {i} has all some first =
     let whole : take i text ≡ text = take_all i text all in (
       digits_value 10 text,
-      record { digits = (omega arith, subst (AllDigits 10) whole has.digits); no_leading_zero = first; value = refl },
-      subst (λ (t : List ℕ). value ≡ min (digits_value 10 t) most) whole has.is,
+      record { digits = (omega arith, rw whole at has.digits); no_leading_zero = first; value = refl },
+      rw whole at has.is,
     )
 
 -- a text with another byte is no number

@@ -7,7 +7,7 @@ use Rattle.std.specs.List.{AllByRecursion, AllZip}
 use Rattle.std.specs.Str.Parse.{AllDigits}
 use Rattle.sched_program.specs.declared.operation.OpId.{OpId}
 use Rattle.replay.specs.declared.file.line.BookLine.{BookLine}
-use Rattle.replay.specs.Text.Files.{IsNumber, commaed, order_text, IsEntryLine, start_text, IsBookText, HasHead}
+use Rattle.replay.specs.Text.Files.{commaed, order_text, IsEntryLine, start_text, IsBookText, HasHead}
 use Rattle.replay.specs.Text.Files.{IsEntryText, IsEntryMisformed, IsFirstMisformed}
 use Rattle.replay.proofs.Either.{AtMostOne, one_of_either}
 use Rattle.replay.proofs.Text.Cuts.{no_cut, same_cut, same_lines}
@@ -20,9 +20,6 @@ digits_bare at below (c ∷ text) digits = let range = digit_from_value c digits
 
 pub space_fails : ¬ (let n : ℕ = 32 in n ≢ 32)
 space_fails differs = differs refl
-
-pub same_number : (text : List ℕ) (m n : ℕ) → IsNumber text m → IsNumber text n → m ≡ n
-same_number text m n is also = sym is.value ∙ also.value
 
 pub same_id : (a b : OpId) → 48 + a.thread ≡ 48 + b.thread → 48 + a.index ≡ 48 + b.index → a ≡ b
 same_id a b e f =
@@ -72,17 +69,16 @@ same_entries (text ∷ texts) (line ∷ lines) (other ∷ others) are also =
 same_entries _ _ _ are also = search
 
 -- the texts after the head are determined
-pub same_texts : (bytes : List ℕ) (texts others : List (List ℕ)) → HasHead bytes texts → HasHead bytes others
+same_texts : {bytes : List ℕ} {texts others : List (List ℕ)} → HasHead bytes texts → HasHead bytes others
     → texts ≡ others
-same_texts bytes texts others has also =
-    cc (same_lines bytes _ _ has.are_lines also.are_lines)
+same_texts has also = cc (same_lines has.are_lines also.are_lines)
 
 -- bytes are the text of the lines of one book at most
 pub same_book : (bytes : List ℕ) (lines others : List BookLine)
     → IsBookText bytes lines → IsBookText bytes others
     → lines ≡ others
 same_book bytes lines others is also =
-    let same : is.texts ≡ also.texts = cc (same_texts bytes _ _ is.has_head also.has_head) in
+    let same : is.texts ≡ also.texts = cc (same_texts is.has_head also.has_head) in
     same_entries also.texts lines others (rw same at is.each) also.each
 
 -- a book has fewer lines after the start's than it may have entries
@@ -101,17 +97,17 @@ pub not_both : (bytes : List ℕ) (lines : List BookLine) (number : ℕ) → IsB
     → ¬ IsFirstMisformed bytes number
 not_both bytes lines number is (inl head) = head.misformed (start_text ∷ is.texts) is.has_head
 not_both bytes lines number is (inr (inl start)) =
-    start.misformed (cc (same_texts bytes _ _ is.has_head start.has_head))
+    start.misformed (cc (same_texts is.has_head start.has_head))
 not_both bytes lines number is (inr (inr entry)) =
     let texts : is.texts ≡ entry.earlier ++ entry.text ∷ entry.later =
-    cc (same_texts bytes _ _ is.has_head entry.has_head) in
+    cc (same_texts is.has_head entry.has_head) in
     no_cut IsEntryText is.texts entry.earlier entry.text entry.later texts
     (entries_formed is.texts lines is.each) entry.misformed
 
 entry_or_entry : (bytes : List ℕ) → AtMostOne (IsEntryMisformed bytes)
 entry_or_entry bytes m n entry other =
     let texts : entry.earlier ++ entry.text ∷ entry.later ≡ other.earlier ++ other.text ∷ other.later =
-    cc (same_texts bytes _ _ entry.has_head other.has_head) in
+    cc (same_texts entry.has_head other.has_head) in
     let cut = same_cut IsEntryText entry.earlier entry.text entry.later other.earlier other.text other.later texts
     entry.formed entry.misformed other.formed other.misformed in
     cc (cut.0)
@@ -121,7 +117,7 @@ pub same_misformed : (bytes : List ℕ) → AtMostOne (IsFirstMisformed bytes)
 same_misformed bytes =
     one_of_either (λ m n head other. head.place ∙ sym other.place)
     (one_of_either (λ m n start other. start.place ∙ sym other.place) (entry_or_entry bytes)
-    (λ m n start entry. start.misformed (cc (same_texts bytes _ _ start.has_head entry.has_head))))
+    (λ m n start entry. start.misformed (cc (same_texts start.has_head entry.has_head))))
     (λ m n head other. elim other [
       | inl start ↦ head.misformed _ start.has_head
       | inr entry ↦ head.misformed _ entry.has_head

@@ -23,10 +23,9 @@ order_text_push : (order : List OpId) (id : OpId) → 1 ≤ length order
 order_text_push [] id some = absurd (omega arith)
 order_text_push (first ∷ order) id some = ap (λ (l : List ℕ). name_text first ++ l) (commaed_push order id)
 
-pub order_push : (text : List ℕ) (order : List OpId) (rest tail : List ℕ) (id : OpId) (later : List ℕ)
-    → HasOrder text order rest
+pub order_push : {text rest tail later : List ℕ} {order : List OpId} {id : OpId} → HasOrder text order rest
     → rest ≡ 44 ∷ tail → tail ≡ name_text id ++ later → IsName id → HasOrder text (order ++ id ∷ []) later
-order_push text order rest tail id later has comma e is = record {
+order_push {later = later} {order = order} {id = id} has comma e is = record {
   names = all_append IsName order (id ∷ []) has.names (is, tt);
   some = omega (arith, length-append order (id ∷ []));
   whole = rw (
@@ -51,12 +50,12 @@ commaed_left (id ∷ order) (first ∷ other) rest e =
     let (more, split, left) = commaed_left order other rest (cc) in
     (more, cc, left)
 
-order_left : (text : List ℕ) (order other : List OpId) (rest : List ℕ) → HasOrder text order rest → IsOrder text other
+order_left : {text rest : List ℕ} (order other : List OpId) → HasOrder text order rest → IsOrder text other
     → GoesOn order other rest
-order_left text [] other rest has is = absurd (omega (arith, has.some))
-order_left text (id ∷ order) [] rest has is =
+order_left [] other has is = absurd (omega (arith, has.some))
+order_left (id ∷ order) [] has is =
     absurd (omega (arith, ap (λ (l : List ℕ). get_or l 0 0) (sym is.whole ∙ has.whole)))
-order_left text (id ∷ order) (first ∷ other) rest has is =
+order_left {rest = rest} (id ∷ order) (first ∷ other) has is =
     let whole : name_text first ++ commaed other ≡ name_text id ++ (commaed order ++ rest) = sym is.whole ∙ has.whole in
     let same = same_id id first (cc) (cc) in
     let (more, split, left) = commaed_left order other rest (cc) in
@@ -66,26 +65,25 @@ among : (order : List OpId) (id : OpId) (more : List OpId) → AllByRecursion Is
 among [] id more all = all.0
 among (first ∷ order) id more all = among order id more all.1
 
--- nor is one where no name follows a comma
-pub no_name : (text : List ℕ) (order : List OpId) (rest tail : List ℕ) → HasOrder text order rest → rest ≡ 44 ∷ tail
+-- where no name follows a comma, the text is no order
+pub no_name : {text rest tail : List ℕ} {order : List OpId} → HasOrder text order rest → rest ≡ 44 ∷ tail
     → ((id : OpId) (later : List ℕ) → IsName id → tail ≢ name_text id ++ later) → (other : List OpId)
     → ¬ IsOrder text other
-no_name text order rest tail has comma none other is =
-    let (more, split, left) = order_left text order other rest has is in
-    go more split left
+no_name {tail = tail} {order = order} has comma none other is =
+    let (more, split, left) = order_left order other has is in
+    go more split (sym comma ∙ left)
   where
-    go : (more : List OpId) → other ≡ order ++ more → rest ≡ commaed more → ⊥
+    go : (more : List OpId) → other ≡ order ++ more → 44 ∷ tail ≡ commaed more → ⊥
     go [] split left = cc
-    go (id ∷ more) split left =
-        none id (commaed more) (among order id more (rw split at is.names)) (cc)
+    go (id ∷ more) split left = none id (commaed more) (among order id more (rw split at is.names)) (cc)
 
--- nor one that goes on and not with a comma
-pub no_comma : (text : List ℕ) (order : List OpId) (rest : List ℕ) → HasOrder text order rest → length rest ≢ 0
+-- nor is one that goes on and not with a comma
+pub no_comma : {text rest : List ℕ} {order : List OpId} → HasOrder text order rest → length rest ≢ 0
     → ((tail : List ℕ) → rest ≢ 44 ∷ tail) → (other : List OpId) → ¬ IsOrder text other
-no_comma text order rest has some none other is =
-    let (more, split, left) = order_left text order other rest has is in
-    go more split left
+no_comma {rest = rest} {order = order} has some none other is =
+    let (more, split, left) = order_left order other has is in
+    go more left
   where
-    go : (more : List OpId) → other ≡ order ++ more → rest ≡ commaed more → ⊥
-    go [] split left = some (ap length left)
-    go (id ∷ more) split left = none (name_text id ++ commaed more) left
+    go : (more : List OpId) → rest ≡ commaed more → ⊥
+    go [] left = some (ap length left)
+    go (id ∷ more) left = none (name_text id ++ commaed more) left

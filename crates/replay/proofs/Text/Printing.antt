@@ -3,7 +3,7 @@ use Rattle.std.proofs.Common.{◌≡◌, ◌≢◌, ℕ, zero, suc, ◌+◌, ◌
 use Rattle.std.proofs.Common.{codes, refl, ap, arith}
 use Rattle.std.proofs.lemmas.Fmt.{decimal_is_IsNumeral, first_decimal, decimal_digit}
 use Rattle.std.proofs.lemmas.List.{append_assoc, map_push, length-map}
-use Rattle.std.proofs.lemmas.List.Elements.{recursion_from_All, All-head, All-tail}
+use Rattle.std.proofs.lemmas.List.Elements.{recursion_from_All}
 use Rattle.std.specs.Fmt.{decimal}
 use Rattle.std.specs.List.{All, AllByRecursion, AllZip}
 use Rattle.sched_program.specs.declared.operation.OpId.{OpId}
@@ -73,9 +73,6 @@ is_entry_line line is = record {
 }
 
 -- no digit, and no name, has a line feed
-number_bare : (text : List ℕ) (n : ℕ) → IsNumber text n → AllByRecursion (λ b. b ≢ 10) text
-number_bare text n is = digits_bare 10 (omega arith) text is.digits.1
-
 commaed_bare : (ids : List OpId) → AllByRecursion (λ b. b ≢ 10) (commaed ids)
 commaed_bare [] = tt
 commaed_bare (id ∷ ids) = (omega arith, (omega arith, (omega arith, (omega arith, commaed_bare ids))))
@@ -88,7 +85,7 @@ entry_bare : (text : List ℕ) (line : BookLine) → IsEntryLine text line → A
 entry_bare text line is =
     let order : AllByRecursion (λ b. b ≢ 10) is.order = rw is.is_order.whole (order_bare line.order) in
     rw is.whole (all_append (λ b. b ≢ 10) is.parent (32 ∷ (48 + line.thread) ∷ 32 ∷ is.order)
-    (number_bare is.parent is.number is.is_number) (omega arith, (omega arith, (omega arith, order))))
+    (digits_bare 10 (omega arith) is.parent is.is_number.digits.1) (omega arith, (omega arith, (omega arith, order))))
 
 words_bare : AllByRecursion (λ b. b ≢ 10) (codes "treesched book 1 entries ")
 words_bare = search arith
@@ -97,14 +94,11 @@ head_bare : (entries : ℕ) → entries < 2 ^ 64 → AllByRecursion (λ b. b ≢
 unfolding head_text
 head_bare entries small =
     all_append (λ b. b ≢ 10) (codes "treesched book 1 entries ") (decimal entries) words_bare
-    (number_bare (decimal entries) entries (is_number entries small))
+    (digits_bare 10 (omega arith) (decimal entries) (is_number entries small).digits.1)
 
-entries_each : (lines : List BookLine) → All IsProper lines → AllZip IsEntryLine (map text_of lines) lines
+entries_each : (lines : List BookLine) → AllByRecursion IsProper lines → AllZip IsEntryLine (map text_of lines) lines
 entries_each [] all = tt
-entries_each (line ∷ lines) all = (
-  is_entry_line line (All-head IsProper line lines all),
-  entries_each lines (All-tail IsProper line lines all),
-)
+entries_each (line ∷ lines) all = (is_entry_line line all.0, entries_each lines all.1)
 
 entries_bare : (texts : List (List ℕ)) (lines : List BookLine) → AllZip IsEntryLine texts lines
     → AllByRecursion (AllByRecursion (λ b. b ≢ 10)) texts
@@ -117,7 +111,7 @@ pub is_written : (lines : List BookLine) → All IsProper lines → length lines
     → IsBookText (book_text (length lines + 1) lines) lines
 unfolding book_text
 is_written lines proper bounded =
-    let each = entries_each lines proper in
+    let each = entries_each lines (recursion_from_All IsProper lines proper) in
     let count : length (start_text ∷ map text_of lines) ≡ length lines + 1 = omega (arith, length-map lines text_of) in
     record {
       texts = map text_of lines;

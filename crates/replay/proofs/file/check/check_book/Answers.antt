@@ -1,7 +1,7 @@
 use Rattle.std.proofs.Common.{◌≡◌, ◌∙◌, inl, inr, length}
 use Rattle.std.proofs.lemmas.Result.{err_from_is_err_and}
 use Rattle.replay.proofs.BookFile.Passing.{passing_holds}
-use Rattle.replay.proofs.BookFile.Whole.{one_refusal_of_bytes, passing_bytes}
+use Rattle.replay.proofs.BookFile.Exclusive.{one_refusal_of_bytes, passing_bytes}
 use Rattle.replay.proofs.file.check.check_book.Goals as goal
 
 pub returns-in_err-lines-clause-refused : goal.returns-in_err-lines-clause-refused

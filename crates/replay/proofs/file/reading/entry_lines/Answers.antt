@@ -1,32 +1,21 @@
-use Rattle.std.proofs.Common.{List, inr, subst, sym}
-use Rattle.replay.specs.declared.file.line.BookLine.{BookLine}
-use Rattle.replay.proofs.Text.Entries.{HasReadLines, lines_none, lines_push, lines_all, lines_fault}
+use Rattle.std.proofs.Common.{inr}
+use Rattle.replay.proofs.Text.Entries.{lines_none, lines_push, lines_all, lines_fault}
 use Rattle.replay.proofs.file.reading.entry_lines.Goals as goal
 
 pub loop-text-init : goal.loop-text-init
-loop-text-init c =
-    subst (λ (lines : List BookLine). HasReadLines c.args.bytes.now lines c.args.bytes.now) (sym c.new-lines.ensures)
-    (lines_none c.args.bytes.now c.requires.0 c.requires.1 c.requires.2)
+loop-text-init c = rw c.new-lines.ensures (lines_none c.requires.1 c.requires.2)
 
 pub returns-in-None-clause-err : goal.returns-in-None-clause-err
 returns-in-None-clause-err c =
     let cut = c.in-Some.ensures.found in
-    rw c.len.ensures
-    (inr (lines_fault c.args.bytes.now c.loop-text.lines c.loop-text.rest.now c.in-Some.text.now c.in-Some.tail.now
-    c.loop-text.invariant cut.0 cut.1
+    rw c.len.ensures (inr (lines_fault c.in-Some.tail.now c.loop-text.invariant cut.0 cut.1
     (rw c.in-None.is at c.in_ok-line.ensures.none)))
 
 pub loop-text-preserved : goal.loop-text-preserved
 loop-text-preserved c =
     let cut = c.in-Some.ensures.found in
-    subst (λ (lines : List BookLine). HasReadLines c.args.bytes.now lines c.in-Some.tail.now)
-    (sym c.in_ok-push-in-Some-2.ensures.ok)
-    (lines_push c.args.bytes.now c.loop-text.lines c.loop-text.rest.now c.in-Some.text.now c.in-Some.tail.now
-    c.in-Some-2.line c.loop-text.invariant cut.0 cut.1
-    (rw c.in-Some-2.is at c.in_ok-line.ensures.found))
+    rw c.in_ok-push-in-Some-2.ensures.ok
+    (lines_push c.loop-text.invariant cut.0 cut.1 (rw c.in-Some-2.is at c.in_ok-line.ensures.found))
 
 pub returns-clause-ok : goal.returns-clause-ok
-returns-clause-ok c =
-    rw c.into_vec.ensures
-    (lines_all c.args.bytes.now c.loop-text.lines c.loop-text.rest.now c.loop-text.invariant
-    c.in_default.ensures.none)
+returns-clause-ok c = rw c.into_vec.ensures (lines_all c.loop-text.invariant c.in_default.ensures.none)

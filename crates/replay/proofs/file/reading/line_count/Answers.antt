@@ -1,6 +1,6 @@
-use Rattle.std.proofs.Common.{◌≡◌, ◌∷◌, ◌++◌, [], ◌+◌, Bool, false, take, get_or, ℕ, List, arith, subst}
+use Rattle.std.proofs.Common.{◌≡◌, ◌∷◌, ◌++◌, [], ◌+◌, take, get_or, arith}
 use Rattle.std.proofs.lemmas.List.{take_more, take_all}
-use Rattle.replay.proofs.Text.Counting.{HasCounted, counted_feed, counted_other, counted_no_lines}
+use Rattle.replay.proofs.Text.Counting.{counted_feed, counted_other, counted_no_lines}
 use Rattle.replay.proofs.file.reading.line_count.Goals as goal
 use Rattle.replay.proofs.file.reading.line_count.Goals.{then-byte-eq10, else-byte-eq10}
 
@@ -12,27 +12,16 @@ loop-byte-preserved c =
     let has = c.loop-byte.invariant.counted in
     elim c.if-byte-eq10.branch [
       | then-byte-eq10 w ↦ record {
-        counted =
-            rw (more, w.count-is, w.is_ended-is)
-            (counted_feed (take i bytes) c.loop-byte.count c.loop-byte.is_ended (get_or bytes i 0) has
-            w.if-byte-eq10.true);
+        counted = rw (more, w.count-is, w.is_ended-is) (counted_feed has w.if-byte-eq10.true);
         bounded = omega arith;
       }
       | else-byte-eq10 w ↦ record {
-        counted =
-            rw (more, w.count-is, w.is_ended-is)
-            (counted_other (take i bytes) c.loop-byte.count c.loop-byte.is_ended (get_or bytes i 0) has
-            w.if-byte-eq10.false);
+        counted = rw (more, w.count-is, w.is_ended-is) (counted_other has w.if-byte-eq10.false);
         bounded = omega arith;
       }
     ]
 
 pub returns-else-is_ended-clause-none : goal.returns-else-is_ended-clause-none
 returns-else-is_ended-clause-none c =
-    let bytes = c.args.bytes.now in
-    let whole : take c.loop-byte.byte-index bytes ≡ bytes =
-    take_all c.loop-byte.byte-index bytes c.loop-byte-test.false in
-    let has : HasCounted (take c.loop-byte.byte-index bytes) c.loop-byte.count false =
-    subst (λ (b : Bool). HasCounted (take c.loop-byte.byte-index bytes) c.loop-byte.count b) c.if-is_ended.false
-    c.loop-byte.invariant.counted in
-    counted_no_lines bytes c.loop-byte.count (subst (λ (l : List ℕ). HasCounted l c.loop-byte.count false) whole has)
+    let whole = take_all c.loop-byte.byte-index c.args.bytes.now c.loop-byte-test.false in
+    counted_no_lines (rw (whole, c.if-is_ended.false) at c.loop-byte.invariant.counted)

@@ -1,4 +1,4 @@
-use Rattle.std.proofs.Common.{◌≡◌, ◌+◌, ◌-◌, ◌*◌, ◌≤◌, length, get_or, min, arith, inl, inr}
+use Rattle.std.proofs.Common.{◌≡◌, ◌+◌, ◌-◌, ◌≤◌, length, get_or, arith, inl, inr}
 use Rattle.std.proofs.lemmas.Bool.Decides.{nat_tests}
 use Rattle.replay.proofs.Text.Numbers.{read_none, read_digit, read_number, no_number}
 use Rattle.replay.proofs.file.reading.number_of.Goals as goal
@@ -24,21 +24,15 @@ overflow_add-value c = omega (arith, c.from.ensures, c.loop-digit.invariant.is)
 
 pub loop-digit-preserved : goal.loop-digit-preserved
 loop-digit-preserved c =
-    let next : c.if-value-most.value ≡ min
-    (c.loop-digit.value * 10 + (get_or c.args.text.now c.loop-digit.digit-index 0 - 48)) c.args.most =
-    elim c.if-value-most.branch [
+    read_digit c.loop-digit.invariant c.loop-digit-test.true c.if-digit-lt48.false c.if-digit-gt57.false
+    (elim c.if-value-most.branch [
       | then-value-most w ↦ omega (arith, c.from.ensures)
-      | else-value-most w
-          ↦ omega (arith, c.from.ensures)
-    ] in
-    read_digit c.args.text.now c.loop-digit.digit-index c.loop-digit.value c.args.most c.if-value-most.value
-    c.loop-digit.invariant c.loop-digit-test.true
-    c.if-digit-lt48.false c.if-digit-gt57.false next
+      | else-value-most w ↦ omega (arith, c.from.ensures)
+    ])
 
 pub returns-clause-found : goal.returns-clause-found
 returns-clause-found c =
     let some : 1 ≤ length c.args.text.now = grind (arith, nat_tests, c.if-is_empty.ensures) in
     let first : get_or c.args.text.now 0 0 ≡ 48 → length c.args.text.now ≡ 1 =
     elim c.if-text-gt1.branch [ then-text-gt1 w ↦ grind (arith, nat_tests) | else-text-gt1 w ↦ λ zero. omega arith ] in
-    read_number c.args.text.now c.loop-digit.digit-index c.loop-digit.value c.args.most c.loop-digit.invariant
-    (omega arith) some first
+    read_number c.loop-digit.invariant (omega arith) some first

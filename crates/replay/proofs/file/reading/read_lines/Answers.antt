@@ -19,7 +19,7 @@ entry_lines-requires c =
     rw c.in-Some-strip_prefix.is at
     (strip_prefix_is Decides-eqb c.in-Some.rest.now (codes "- - -\n") c.strip_prefix.result
     c.strip_prefix.ensures.cases) in
-    let after = after_start c.args.bytes.now c.in-Some.rest.now c.in-Some-strip_prefix.rest.now has.0 has.1 has.2 e in
+    let after = after_start has.1 has.2 e in
     (after.0, after.2, after.3)
 
 pub returns-in-Some-strip_prefix : goal.returns-in-Some-strip_prefix
@@ -32,15 +32,12 @@ returns-in-Some-strip_prefix c =
     c.strip_prefix.ensures.cases) in
     let r = c.entry_lines.result in
     let book = IfOk-weaker r _ (λ v. IsBookText bytes v.items)
-    (λ v are. is_book bytes c.in-Some.rest.now c.in-Some-strip_prefix.rest.now has.0 v.items has.1 has.2 e are)
-    c.entry_lines.ensures.ok in
+    (λ v are. is_book has.1 has.2 e are) c.entry_lines.ensures.ok in
     record {
       book = book;
       bounded = IfOk-weaker r (λ v. IsBookText bytes v.items) _ (λ v is. lines_bounded bytes v.items is) book;
       refused = IfErr-weaker r _ (λ stated. (stated ≡ OutOfMemory) ⊎ IsFormFault bytes stated)
-          (λ stated is. entries_fault bytes c.in-Some.rest.now c.in-Some-strip_prefix.rest.now has.0 stated has.1 has.2
-          e is)
-          c.entry_lines.ensures.err;
+          (λ stated is. entries_fault stated has.1 has.2 e is) c.entry_lines.ensures.err;
     }
 
 pub returns-in-None-clause-refused : goal.returns-in-None-clause-refused
@@ -50,4 +47,4 @@ returns-in-None-clause-refused c =
     rw c.in-None.is at
     (strip_prefix_is Decides-eqb c.in-Some.rest.now (codes "- - -\n") c.strip_prefix.result
     c.strip_prefix.ensures.cases) in
-    inr (2, refl, start_fault c.args.bytes.now c.in-Some.rest.now has.0 has.1 has.2 none)
+    inr (2, refl, start_fault has.0 has.1 has.2 none)

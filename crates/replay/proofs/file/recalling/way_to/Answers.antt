@@ -13,10 +13,8 @@ back-init g c states so =
 
 pub bounds-input-at : goal.bounds-input-at
 bounds-input-at g c =
-    let input = c.args.input.now in
     let kept = c.requires.kept in
-    has_line (g.M.Machine.rules input.machine) input.program.now input.lines.now kept.states kept.replayed c.back.at
-    c.back-test.true (reverse c.back.way.items) c.args.index (c.back.invariant kept.states kept.replayed)
+    has_line c.args.input.now.lines.now kept.replayed c.back-test.true (c.back.invariant kept.states kept.replayed)
 
 pub offset_bounds-input-at : goal.offset_bounds-input-at
 offset_bounds-input-at g c =
@@ -24,30 +22,22 @@ offset_bounds-input-at g c =
 
 pub back-smaller : goal.back-smaller
 back-smaller g c =
-    let input = c.args.input.now in
+    let lines = c.args.input.now.lines.now in
     let kept = c.requires.kept in
-    let rules_of = g.M.Machine.rules input.machine in
     let leads = c.back.invariant kept.states kept.replayed in
-    let within = has_line rules_of input.program.now input.lines.now kept.states kept.replayed c.back.at
-    c.back-test.true (reverse c.back.way.items) c.args.index leads in
-    (one_back rules_of input.program.now input.lines.now kept.states kept.replayed c.back.at c.back-test.true
-    c.back.way.items c.args.index leads _
-    (slice_get-get_or input.lines.now (c.back.at - 1) c.index-input-at.result within)).0
+    let within = has_line lines kept.replayed c.back-test.true leads in
+    (one_back lines kept.replayed c.back-test.true c.back.way.items leads _
+    (slice_get-get_or lines (c.back.at - 1) c.index-input-at.result within)).0
 
 pub back-preserved : goal.back-preserved
 back-preserved g c states so =
-    let input = c.args.input.now in
-    let rules_of = g.M.Machine.rules input.machine in
+    let lines = c.args.input.now.lines.now in
     let leads = c.back.invariant states so in
-    let within = has_line rules_of input.program.now input.lines.now states so c.back.at c.back-test.true
-    (reverse c.back.way.items) c.args.index leads in
-    rw c.in_ok-push.ensures.items (one_back rules_of input.program.now input.lines.now states so c.back.at
-    c.back-test.true c.back.way.items c.args.index leads _
-    (slice_get-get_or input.lines.now (c.back.at - 1) c.index-input-at.result within)).1
+    let within = has_line lines so c.back-test.true leads in
+    rw c.in_ok-push.ensures.items (one_back lines so c.back-test.true c.back.way.items leads _
+    (slice_get-get_or lines (c.back.at - 1) c.index-input-at.result within)).1
 
 pub returns : goal.returns
 returns g c states so =
-    let input = c.args.input.now in
-    rw c.reverse.ensures.items
-    (from_start (g.M.Machine.rules input.machine) input.program.now input.lines.now states so c.back.at
-    c.back-test.false (reverse c.back.way.items) c.args.index (c.back.invariant states so))
+    rw c.reverse.ensures.items (from_start c.args.input.now.lines.now so c.back-test.false (reverse c.back.way.items)
+    (c.back.invariant states so))

@@ -1,7 +1,7 @@
 use Rattle.std.proofs.Common.{◌≡◌, ◌<◌, ◌≤◌, inl, inr, length, Err, None, ap, ◌∙◌, arith}
 use Rattle.std.proofs.lemmas.Result.{err_from_is_err_and}
 use Rattle.tree_machine.specs.Step.{step}
-use Rattle.replay.proofs.BookFile.Amiss.{no_step, step_amiss, step_passes}
+use Rattle.replay.proofs.BookFile.Twins.{no_step, step_amiss, step_passes}
 use Rattle.replay.proofs.BookFile.Replayed.{same_count}
 use Rattle.replay.proofs.file.replaying.label_of_line.Goals as goal
 
