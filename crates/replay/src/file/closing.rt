@@ -46,14 +46,19 @@ fn knows_step<M: Encode>(
     let _ = input.program.initial();
     let source = Snapshot::of(&replayer.state);
     let undo = &mut replayer.undo;
-    match replayer.state.step_here(alloc, input.machine, input.program, thread, undo) {
+    match replayer
+        .state
+        .step_here(alloc, input.machine, input.program, thread, undo)
+    {
         Ok(()) => {}
         Err(StepFault::NotEnabled) => return Ok(true),
         Err(StepFault::OutOfMemory) => return Err(OutOfMemory),
     }
     let spare = replace(&mut replayer.spare, Vec::new(alloc));
     let label = replayer.label_of_step(alloc, input, labels, &source, thread, spare)?;
-    replayer.state.take_back(&source, thread, &mut replayer.undo);
+    replayer
+        .state
+        .take_back(&source, thread, &mut replayer.undo);
     let is_known = labels.contains(&label);
     replayer.spare = label.into_vec();
     Ok(is_known)

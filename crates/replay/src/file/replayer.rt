@@ -110,7 +110,9 @@ impl<M: Encode> Replayer<M> {
         let machine = input.machine;
         let Some((label, offsets)) = labels.code_of(self.source) else {
             let buffer = &mut self.buffer;
-            return self.state.label(alloc, machine, Naming::Canonical, buffer, spare);
+            return self
+                .state
+                .label(alloc, machine, Naming::Canonical, buffer, spare);
         };
         let origin = StepOrigin {
             label,
@@ -120,6 +122,7 @@ impl<M: Encode> Replayer<M> {
             undo: &self.undo,
         };
         let buffer = &mut self.buffer;
-        self.state.label_after(alloc, machine, Naming::Canonical, &origin, buffer, spare)
+        self.state
+            .label_after(alloc, machine, Naming::Canonical, &origin, buffer, spare)
     }
 }

@@ -81,16 +81,28 @@ fn label_of_line<M: Encode>(
     let thread = line.thread;
     let source = Snapshot::of(&replayer.state);
     let undo = &mut replayer.undo;
-    match replayer.state.step_here(alloc, input.machine, input.program, thread, undo) {
+    match replayer
+        .state
+        .step_here(alloc, input.machine, input.program, thread, undo)
+    {
         Ok(()) => {}
         Err(StepFault::NotEnabled) => return Err(CheckFault::Step(number)),
         Err(StepFault::OutOfMemory) => return Err(CheckFault::OutOfMemory),
     }
     let order = line.order.as_slice();
-    test_state(alloc, input.machine, input.program, &replayer.state, order, number)?;
+    test_state(
+        alloc,
+        input.machine,
+        input.program,
+        &replayer.state,
+        order,
+        number,
+    )?;
     let spare = Vec::new(alloc);
     let label = replayer.label_of_step(alloc, input, before, &source, thread, spare)?;
-    replayer.state.take_back(&source, thread, &mut replayer.undo);
+    replayer
+        .state
+        .take_back(&source, thread, &mut replayer.undo);
     Ok(label)
 }
 
@@ -115,7 +127,13 @@ fn label_of_start<M: Encode>(
     let state = &replayer.state;
     test_state(alloc, input.machine, input.program, state, &[], 2)?;
     let buffer = &mut replayer.buffer;
-    Ok(state.label(alloc, input.machine, Naming::Canonical, buffer, Vec::new(alloc))?)
+    Ok(state.label(
+        alloc,
+        input.machine,
+        Naming::Canonical,
+        buffer,
+        Vec::new(alloc),
+    )?)
 }
 
 /// The labels of the entries, the start's first, replayed one after the other. The replayer has the start's state.

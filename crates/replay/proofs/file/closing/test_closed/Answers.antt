@@ -22,10 +22,12 @@ returns-then-branch-clause-refused g c =
 pub loop-i-preserved : goal.loop-i-preserved
 loop-i-preserved g c =
     let bound = g.met.M.Machine g.world.𝓛 g.world.𝓜 g.world.𝓡 ((λ s x. x), (λ x. x), (λ x. x), λ x. x) in
-    let input = c.args.input.now in
-    (known_next (bound.lawful input.machine) c.initial.ensures.limits (bound.forms input.machine)
-    g.M.Encode.form_code input.lines.now c.args.labels.now c.loop-i.i c.recall.new.replayer.state c.in_ok-recall.ensures.stands
-    (c.in_ok-leads_out.ensures.none c.if-branch.false) c.loop-i.invariant.0, c.in_ok-leads_out.ensures.source)
+    let input = c.args.input.now in (
+      known_next (bound.lawful input.machine) c.initial.ensures.limits (bound.forms input.machine)
+          g.M.Encode.form_code input.lines.now c.args.labels.now c.loop-i.i c.recall.new.replayer.state c.in_ok-recall.ensures.stands
+          (c.in_ok-leads_out.ensures.none c.if-branch.false) c.loop-i.invariant.0,
+      c.in_ok-leads_out.ensures.source,
+    )
 
 pub returns-clause-pass : goal.returns-clause-pass
 returns-clause-pass g c =

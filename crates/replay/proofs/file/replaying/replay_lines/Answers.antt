@@ -6,18 +6,20 @@ use Rattle.replay.proofs.BookFile.Twins.{source_pushed}
 use Rattle.replay.proofs.file.replaying.replay_lines.Goals as goal
 
 pub loop-i-init : goal.loop-i-init
-loop-i-init g c =
-    (labels_start c.args.replayer.now.state c.in_ok-first.first c.push.new.self c.requires.start
-    c.in_ok-first.ensures.shown c.in_ok-first.ensures.label (rw c.new-labels.ensures at c.in_ok-push.ensures),
-    rw (c.in_ok-first.ensures.source, c.requires.source) tt)
+loop-i-init g c = (
+  labels_start c.args.replayer.now.state c.in_ok-first.first c.push.new.self c.requires.start
+      c.in_ok-first.ensures.shown c.in_ok-first.ensures.label (rw c.new-labels.ensures at c.in_ok-push.ensures),
+  rw (c.in_ok-first.ensures.source, c.requires.source) tt,
+)
 
 pub loop-i-preserved : goal.loop-i-preserved
-loop-i-preserved g c =
-    (labels_next c.args.input.now.lines.now c.loop-i.i c.line-item.result c.loop-i-test.true c.line-item.is
-    c.loop-i.invariant.0 c.in_ok-next.next c.push-in-loop-i.new.self c.in_ok-next.ensures.tells c.in_ok-push-2.ensures,
-    rw c.in_ok-push-2.ensures (source_pushed g.M.Encode.front_code g.M.Encode.behind_code c.loop-i.labels
-    c.in_ok-next.next c.label_of_line.new.replayer.source c.label_of_line.new.replayer.state
-    c.in_ok-next.ensures.source))
+loop-i-preserved g c = (
+  labels_next c.args.input.now.lines.now c.loop-i.i c.line-item.result c.loop-i-test.true c.line-item.is
+      c.loop-i.invariant.0 c.in_ok-next.next c.push-in-loop-i.new.self c.in_ok-next.ensures.tells c.in_ok-push-2.ensures,
+  rw c.in_ok-push-2.ensures (source_pushed g.M.Encode.front_code g.M.Encode.behind_code c.loop-i.labels
+      c.in_ok-next.next c.label_of_line.new.replayer.source c.label_of_line.new.replayer.state
+      c.in_ok-next.ensures.source),
+)
 
 pub returns-in_err-next-clause-amiss : goal.returns-in_err-next-clause-amiss
 returns-in_err-next-clause-amiss g c =
