@@ -16,7 +16,8 @@ returns-then-branch-clause-refused g c =
     let coding = g.met.M.Encode g.world.𝓛 g.world.𝓜 g.world.𝓡 ((λ s x. x), (λ x. x), (λ x. x), λ x. x) in
     let input = c.args.input.now in
     inr (open_next (bound.lawful input.machine) c.initial.ensures.limits (bound.forms input.machine)
-    g.M.Encode.form_code c.requires.kept coding.form_tells c.loop-i.i c.recall.new.replayer.state c.in_ok-recall.ensures.stands
+    g.M.Encode.form_code c.requires.kept coding.form_tells c.loop-i.i c.recall.new.replayer.state
+    c.in_ok-recall.ensures.stands
     (c.in_ok-leads_out.ensures.out c.if-branch.true) c.loop-i.invariant.0)
 
 pub loop-i-preserved : goal.loop-i-preserved
@@ -24,7 +25,8 @@ loop-i-preserved g c =
     let bound = g.met.M.Machine g.world.𝓛 g.world.𝓜 g.world.𝓡 ((λ s x. x), (λ x. x), (λ x. x), λ x. x) in
     let input = c.args.input.now in (
       known_next (bound.lawful input.machine) c.initial.ensures.limits (bound.forms input.machine)
-          g.M.Encode.form_code input.lines.now c.args.labels.now c.loop-i.i c.recall.new.replayer.state c.in_ok-recall.ensures.stands
+          g.M.Encode.form_code input.lines.now c.args.labels.now c.loop-i.i c.recall.new.replayer.state
+          c.in_ok-recall.ensures.stands
           (c.in_ok-leads_out.ensures.none c.if-branch.false) c.loop-i.invariant.0,
       c.in_ok-leads_out.ensures.source,
     )

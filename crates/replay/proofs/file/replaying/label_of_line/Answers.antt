@@ -28,7 +28,8 @@ pub returns-in-Err-NotEnabled-clause-amiss : goal.returns-in-Err-NotEnabled-clau
 returns-in-Err-NotEnabled-clause-amiss g c =
     let bound = g.met.M.Machine g.world.𝓛 g.world.𝓜 g.world.𝓡 ((λ s x. x), (λ x. x), (λ x. x), λ x. x) in
     let input = c.args.input.now in
-    let none : step (g.M.Machine.rules input.machine) input.program.now c.recall.new.replayer.state c.args.line.now.thread
+    let none : step (g.M.Machine.rules input.machine) input.program.now c.recall.new.replayer.state
+    c.args.line.now.thread
     ≡ None = c.step_here.ensures.no_step.0 (c.in-Err-NotEnabled.is ∙ ap Err c.in-Err-NotEnabled.field-0-is) in
     inr (λ states so. no_step (bound.lawful input.machine) c.initial.ensures.limits (bound.forms input.machine)
     input.lines.now c.args.line.now c.recall.new.replayer.state c.in_ok-recall.ensures.stands states so
@@ -42,7 +43,8 @@ returns-in_err-test_state-clause-amiss g c =
     rw (p.1, p.2) (elim (rw c.as_slice-order.ensures at c.in_err-test_state.ensures.unshown) [
       | inl memory ↦ inl memory
       | inr unshown ↦ inr (λ states so. step_amiss (bound.lawful input.machine) c.initial.ensures.limits
-          (bound.forms input.machine) input.lines.now c.args.line.now c.recall.new.replayer.state c.in_ok-recall.ensures.stands states
+          (bound.forms input.machine) input.lines.now c.args.line.now c.recall.new.replayer.state
+          c.in_ok-recall.ensures.stands states
           so c.step_here.new.self c.in-Ok.ensures.step (c.len-number.ensures ∙ same_count c.requires.kept states so)
           c.in_err-test_state.field-0.0 unshown)
     ])
@@ -52,6 +54,7 @@ returns-clause-tells g c states so =
     let bound = g.met.M.Machine g.world.𝓛 g.world.𝓜 g.world.𝓡 ((λ s x. x), (λ x. x), (λ x. x), λ x. x) in
     let input = c.args.input.now in
     step_passes (bound.lawful input.machine) c.initial.ensures.limits (bound.forms input.machine) input.lines.now
-    c.args.line.now c.recall.new.replayer.state c.in_ok-recall.ensures.stands states so c.step_here.new.self c.in-Ok.ensures.step
+    c.args.line.now c.recall.new.replayer.state c.in_ok-recall.ensures.stands states so c.step_here.new.self
+    c.in-Ok.ensures.step
     g.M.Encode.form_code c.in_ok-label.label c.in_ok-label.ensures.label
     (rw c.as_slice-order.ensures at c.in_ok-test_state.ensures.shown)

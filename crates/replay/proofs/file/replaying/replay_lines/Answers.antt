@@ -15,7 +15,8 @@ loop-i-init g c = (
 pub loop-i-preserved : goal.loop-i-preserved
 loop-i-preserved g c = (
   labels_next c.args.input.now.lines.now c.loop-i.i c.line-item.result c.loop-i-test.true c.line-item.is
-      c.loop-i.invariant.0 c.in_ok-next.next c.push-in-loop-i.new.self c.in_ok-next.ensures.tells c.in_ok-push-2.ensures,
+      c.loop-i.invariant.0 c.in_ok-next.next c.push-in-loop-i.new.self c.in_ok-next.ensures.tells
+      c.in_ok-push-2.ensures,
   rw c.in_ok-push-2.ensures (source_pushed g.M.Encode.front_code g.M.Encode.behind_code c.loop-i.labels
       c.in_ok-next.next c.label_of_line.new.replayer.source c.label_of_line.new.replayer.state
       c.in_ok-next.ensures.source),
@@ -40,7 +41,8 @@ returns-in_err-first-clause-amiss g c =
     ])
 
 pub returns-clause-kept : goal.returns-clause-kept
-returns-clause-kept g c = rw (take_all c.loop-i.i c.args.input.now.lines.now c.loop-i-test.false) at c.loop-i.invariant.0
+returns-clause-kept g c =
+    rw (take_all c.loop-i.i c.args.input.now.lines.now c.loop-i-test.false) at c.loop-i.invariant.0
 
 pub label_of_line-requires-clause-kept : goal.label_of_line-requires-clause-kept
 label_of_line-requires-clause-kept g c κs within = c.loop-i.invariant.0
