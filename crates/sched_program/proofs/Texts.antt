@@ -1,5 +1,5 @@
 -- A value is the text of one program at most, and a text has no fault.
-use Rattle.std.proofs.Common.{◌≡◌, ◌≢◌, ℕ, ◌≤◌, List, length, get_or, map, arith, subst, refl, sym, ap, ◌∙◌, Option}
+use Rattle.std.proofs.Common.{◌≡◌, ◌≢◌, ℕ, ◌≤◌, List, length, get_or, map, arith, subst, refl, sym, ap, ◌∙◌}
 use Rattle.std.proofs.Common.{Some, None, Result, Ok, Err, IfOk, IfErr, codes, sum}
 use Rattle.std.proofs.lemmas.Option.{same_Some}
 use Rattle.std.proofs.lemmas.List.Sums.{sum-map}
@@ -12,7 +12,6 @@ use Rattle.sched_program.specs.declared.operation.Op.TheVariants as op
 use Rattle.sched_program.specs.declared.operation.Tree.{Tree}
 use Rattle.sched_program.specs.declared.operation.Tree.TheVariants.{Atomic, Ellen, EllenNoMark, EllenNoIflag, Nm}
 use Rattle.sched_program.specs.declared.operation.Tree.TheVariants.{NmNoTag}
-use Rattle.sched_program.specs.declared.operation.Turn.{Turn}
 use Rattle.sched_program.specs.declared.version.Version.{Version}
 use Rattle.sched_program.specs.declared.version.Version.TheVariants.{First, Second}
 use Rattle.sched_program.specs.declared.reader.OpWord.{OpWord}
@@ -24,7 +23,7 @@ use Rattle.sched_program.specs.Text.{IsListOf, IsKey, IsOp, IsTurn, HasThreads, 
 use Rattle.sched_program.specs.Text.{version_number, op_of, word_of, word_text, tree_name, IsTextOf, IsJsonOf}
 use Rattle.sched_program.specs.Text.{IsJsonTextOf}
 use Rattle.sched_program.specs.Faults.{AreOpCounts, Passes, Stands, IsFirstFault}
-use Rattle.sched_program.proofs.Values.{same_list, same_member}
+use Rattle.sched_program.proofs.Values.{IsUnique, same_list, same_member}
 use Rattle.sched_program.proofs.Members.{same_key, threads_pass}
 
 -- a name has one text
@@ -52,14 +51,14 @@ op_pieces : (op : Op) → op_of (word_of op) (key_of op) ≡ op
 op_pieces (op.Insert key) = refl
 op_pieces o = refl
 
-same_op : (value : Data) (a b : Op) → IsOp value a → IsOp value b → a ≡ b
+same_op : IsUnique IsOp
 same_op value a b is also =
     let word : word_of a ≡ word_of b =
     same_word_text (word_of a) (word_of b) (same_text (codes "op") value _ _ is.word also.word) in
     let key : key_of a ≡ key_of b = same_member IsKey (codes "key") same_key value _ _ is.key also.key in
     cc (op_pieces a, op_pieces b)
 
-pub same_threads : (value : Data) (a b : List (List Op)) → HasThreads value a → HasThreads value b → a ≡ b
+pub same_threads : IsUnique HasThreads
 same_threads =
     same_member (IsListOf (IsListOf IsOp)) (codes "threads") (same_list (IsListOf IsOp) (same_list IsOp same_op))
 
@@ -68,14 +67,13 @@ same_number First First e = refl
 same_number Second Second e = refl
 same_number a b e = absurd (omega (arith, e))
 
-pub same_version : (value : Data) (a b : Version) → HasVersion value a → HasVersion value b → a ≡ b
+pub same_version : IsUnique HasVersion
 same_version value a b is also =
     let e : number (unsigned (version_number a)) ≡ number (unsigned (version_number b)) =
     same_Some _ _ (sym is ∙ also) in
     same_number a b (cc)
 
--- a value is one turn at most
-same_as_turn : (value : Data) (a b : Turn) → IsTurn value a → IsTurn value b → a ≡ b
+same_as_turn : IsUnique IsTurn
 same_as_turn value a b is also =
     let e : array (item (number (unsigned a.thread)) (item (number (unsigned a.count)) no_items))
     ≡ array (item (number (unsigned b.thread)) (item (number (unsigned b.count)) no_items)) = sym is ∙ also in
@@ -83,8 +81,7 @@ same_as_turn value a b is also =
     let count : a.count ≡ b.count = cc in
     λ j. record { thread = thread j; count = count j }
 
-same_wait : (version : Version) (value : Data) (a b : Option Turn) → HasTurn version value a → HasTurn version value b
-    → a ≡ b
+same_wait : (version : Version) → IsUnique (HasTurn version)
 same_wait First value a b is also = is ∙ sym also
 same_wait Second value None None is also = refl
 same_wait Second value None (Some b) is also = absurd (let e : None ≡ Some also.0 = sym is ∙ also.1 in cc)
@@ -92,14 +89,13 @@ same_wait Second value (Some a) None is also = absurd (let e : None ≡ Some is.
 same_wait Second value (Some a) (Some b) is also =
     ap Some (same_member IsTurn (codes "after") same_as_turn value a b is also)
 
-pub same_turns : (version : Version) (value : Data) (a b : List (List (Option Turn))) → HasTurns version value a
-    → HasTurns version value b → a ≡ b
+pub same_turns : (version : Version) → IsUnique (HasTurns version)
 same_turns version =
     same_member (IsListOf (IsListOf (HasTurn version))) (codes "threads")
     (same_list (IsListOf (HasTurn version)) (same_list (HasTurn version) (same_wait version)))
 
 -- a value is the text of one program at most
-pub same_program : (value : Data) (p q : Program) → IsTextOf value p → IsTextOf value q → p ≡ q
+pub same_program : IsUnique IsTextOf
 same_program value p q is also =
     let tree = same_tree_name p.tree q.tree (same_text (codes "tree") value _ _ is.tree also.tree) in
     let initial =

@@ -2,7 +2,7 @@
 use Rattle.std.proofs.Common.{◌≡◌, ℕ, zero, suc, ◌+◌, ◌<◌, List, [], ◌∷◌, ◌++◌, length, map, get_or, take, arith, subst}
 use Rattle.std.proofs.Common.{sym, refl, ap, ◌∙◌, Some, All}
 use Rattle.std.proofs.lemmas.Option.{same_Some}
-use Rattle.std.proofs.lemmas.List.{take_more}
+use Rattle.std.proofs.lemmas.List.{take_more, get_or-map, length-map}
 use Rattle.std.proofs.lemmas.List.Elements.{All-cons, All-nil}
 use Rattle.serde_json.specs.Find.{get, as_array}
 use Rattle.serde_json.specs.Data.{Data, array, Items, no_items, item}
@@ -18,9 +18,12 @@ items_view_count (value ∷ values) = ap suc (items_view_count values)
 
 -- what holds of each image
 pub of_map_All : {A : Type 0} (P : ℕ → Type 0) (f : A → ℕ) (xs : List A) → All P (map f xs) → All (λ x. P (f x)) xs
-of_map_All P f [] all = λ k d below. absurd (omega arith)
-of_map_All P f (x ∷ xs) all =
-    All-cons (λ y. P (f y)) x xs (all 0 0 (omega arith)) (of_map_All P f xs (λ k d below. all (suc k) d (omega arith)))
+of_map_All P f xs all k d below =
+    rw (get_or-map f xs k d (f d) below) at (all k (f d) (omega (arith, length-map xs f)))
+
+-- a value stands for one thing at most
+abbrev pub IsUnique : {A : Type 0} → (Data → A → Type 0) → Type 0
+IsUnique {A} StandsFor = (value : Data) (x y : A) → StandsFor value x → StandsFor value y → x ≡ y
 
 -- a value is a list in one way
 pub same_items : (value : Data) (values others : Items) → value ≡ array values → value ≡ array others → values ≡ others
@@ -84,8 +87,8 @@ module _ {A : Type 0} (StandsFor : Data → A → Type 0) where
   Each-All P f (item v vs) (x ∷ xs) h = All-cons P x xs (f v x h.0) (Each-All P f vs xs h.1)
 
   -- where a value stands for one thing at most, so does a list
-  Each-same : ((value : Data) (x y : A) → StandsFor value x → StandsFor value y → x ≡ y)
-      → (values : Items) (xs ys : List A) → Each StandsFor values xs → Each StandsFor values ys → xs ≡ ys
+  Each-same : IsUnique StandsFor → (values : Items) (xs ys : List A) → Each StandsFor values xs
+      → Each StandsFor values ys → xs ≡ ys
   Each-same one no_items [] [] all also = refl
   Each-same one no_items [] (y ∷ ys) all also = absurd also
   Each-same one (item value values) (x ∷ xs) [] all also = absurd also
@@ -93,14 +96,12 @@ module _ {A : Type 0} (StandsFor : Data → A → Type 0) where
       rw (one value x y all.0 also.0, Each-same one values xs ys all.1 also.1)
   Each-same one values xs ys all also = absurd all
 
-  pub same_list : ((value : Data) (x y : A) → StandsFor value x → StandsFor value y → x ≡ y)
-      → (value : Data) (xs ys : List A) → IsListOf StandsFor value xs → IsListOf StandsFor value ys → xs ≡ ys
+  pub same_list : IsUnique StandsFor → IsUnique (IsListOf StandsFor)
   same_list one value xs ys list also =
       Each-same one list.0 xs ys list.2 (rw (same_items value also.0 list.0 also.1 list.1) at also.2)
 
-  pub same_member : (name : List ℕ) → ((value : Data) (x y : A) → StandsFor value x → StandsFor value y → x ≡ y)
-      → (value : Data) (x y : A) → HasMember name (λ v. StandsFor v x) value → HasMember name (λ v. StandsFor v y) value
-      → x ≡ y
+  pub same_member : (name : List ℕ) → IsUnique StandsFor
+      → IsUnique (λ value x. HasMember name (λ v. StandsFor v x) value)
   same_member name one value x y has also =
       one has.0 x y has.2 (of_member (λ v. StandsFor v y) name value has.0 (sym has.1) also)
 

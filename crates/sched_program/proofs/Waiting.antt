@@ -1,8 +1,9 @@
 -- What the operations of a text wait for, and where that is not within the limits.
-use Rattle.std.proofs.Common.{◌≡◌, ℕ, zero, suc, ◌<◌, ◌≤◌, List, [], ◌∷◌, length, get_or, slice_get, arith, sym}
-use Rattle.std.proofs.Common.{ap, ◌∙◌, Option, Some, None, IfSome, IfNone, Result, Ok, IfOk, All, codes}
+use Rattle.std.proofs.Common.{◌≡◌, ℕ, ◌<◌, ◌≤◌, List, [], length, get_or, slice_get, arith, sym}
+use Rattle.std.proofs.Common.{ap, ◌∙◌, inl, inr, Option, Some, None, IfSome, IfNone, Result, Ok, IfOk, All, codes}
 use Rattle.std.proofs.lemmas.Option.{same_Some, slice_get_within, get_or_from_slice_get}
-use Rattle.std.proofs.lemmas.List.{get_or_default}
+use Rattle.std.proofs.lemmas.Bool.{cases_lt}
+use Rattle.std.proofs.lemmas.List.{get_or_default, get_or_past}
 use Rattle.serde_json.specs.Find.{get, as_array}
 use Rattle.serde_json.specs.Data.{Data}
 use Rattle.serde_json.specs.View.{items_view}
@@ -61,25 +62,19 @@ listed version known value threads (Ok (Some x)) is at found =
     rw is (threads, sym at, found)
 listed version known value threads answer is at found = tt
 
--- a thread's row is as that thread may wait
-row_within : (threads : List (List Op)) (turns : List (List (Option Turn))) (t : ℕ) (row : List (Option Turn))
-    → AreTurnsWithin threads turns → slice_get turns t ≡ Some row
-    → All (λ turn. IfSome turn (IsTurnWithin threads t)) row
-row_within threads turns t row within at =
-    rw (get_or_from_slice_get turns t row [] at) at (within t)
-
 ops_bounded : (threads : List (List Op)) (k : ℕ) → All (λ ops. (1 ≤ length ops) × (length ops ≤ 6)) threads
     → length (get_or threads k []) ≤ 6
-ops_bounded [] k all = omega arith
-ops_bounded (ops ∷ rest) zero all = (all 0 [] (omega arith)).1
-ops_bounded (ops ∷ rest) (suc k) all = ops_bounded rest k (λ j d below. all (suc j) d (omega arith))
+ops_bounded threads k all = elim (cases_lt k (length threads)) [
+  | inl within ↦ (all k [] within).1
+  | inr past ↦ rw (get_or_past threads k [] past) (omega arith)
+]
 
 -- the numbers of a turn are small
 pub small_turn : (threads : List (List Op)) (turns : List (List (Option Turn))) (t i : ℕ) (row : List (Option Turn))
     (turn : Turn) → All (λ ops. (1 ≤ length ops) × (length ops ≤ 6)) threads → AreTurnsWithin threads turns
     → slice_get turns t ≡ Some row → slice_get row i ≡ Some (Some turn) → (turn.thread < t) × (turn.count ≤ 6)
 small_turn threads turns t i row turn counts within at_t at_i =
-    let all = row_within threads turns t row within at_t in
+    let all = rw (get_or_from_slice_get turns t row [] at_t) at (within t) in
     let is : IsTurnWithin threads t turn =
     rw (get_or_from_slice_get row i (Some turn) None at_i) at (all i None (slice_get_within row i (Some turn) at_i)) in
     (is.lower, omega (arith, is.bounded, ops_bounded threads turn.thread counts))
