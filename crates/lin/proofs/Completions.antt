@@ -160,38 +160,24 @@ module _ (program : Program) (history : History) where
       let two = IsSomeAnd-value (op_at program a.thread a.index) _ t.gives in
       cc (one.1, two.1, one.2.1, two.2.1)
 
-  pub Completes-first : (listed : Listed) (keys next : Keys) (x : OpId) (rest : List OpId)
-      → StandsNext program history listed keys x next
-      → Completes program history listed keys (x ∷ rest) ↔ Completes program history (with_name listed x) next rest
-  Completes-first listed keys next x rest s = (
-    λ c. rw (StandsNext-same listed keys next c.0 x s c.1) c.2,
-    λ more. (next, s, more),
-  )
+  -- where the next operation may come next, what is left of the list completes exactly if the list after it does
+  pub Completes-more : (order : List OpId) (i : ℕ) (d : OpId) → i < length order → (keys next : Keys) (A : Type 0)
+      → StandsNext program history (listed_in (take i order)) keys (get_or order i d) next
+      → A ↔ Completes program history (listed_in (take i order)) keys (drop i order)
+      → A ↔ Completes program history (listed_in (take (i + 1) order)) next (drop (i + 1) order)
+  Completes-more order i d within keys next A s before =
+      let listed = listed_in (take i order) in
+      let cut = drop_more order i d within in
+      let more = listed_more order i d within in (
+        λ a.
+            let c = rw cut at (before.0 a) in
+            rw (← more, StandsNext-same listed keys next c.0 (get_or order i d) s c.1) c.2,
+        λ c. before.1 (rw cut (next, s, rw more c)),
+      )
 
-  module _ (order : List OpId) (i : ℕ) (d : OpId) (within : i < length order) where
-    -- where the next operation may come next, what is left of the list completes exactly if the list after it does
-    pub Completes-more : (keys next : Keys) (A : Type 0)
-        → StandsNext program history (listed_in (take i order)) keys (get_or order i d) next
-        → A ↔ Completes program history (listed_in (take i order)) keys (drop i order)
-        → A ↔ Completes program history (listed_in (take (i + 1) order)) next (drop (i + 1) order)
-    Completes-more keys next A s before =
-        let first = Completes-first (listed_in (take i order)) keys next (get_or order i d) (drop (i + 1) order) s in
-        let cut = drop_more order i d within in
-        let more = listed_more order i d within in (
-          λ a. rw (← more) (first.0 (rw cut at (before.0 a))),
-          λ c. before.1 (rw cut (first.1 (rw more c))),
-        )
-
-    -- where it doesn't, nothing that begins with it completes
-    pub Completes-stuck : (keys : Keys)
-        → ((next : Keys) → StandsNext program history (listed_in (take i order)) keys (get_or order i d) next → ⊥)
-        → Completes program history (listed_in (take i order)) keys (drop i order) → ⊥
-    Completes-stuck keys none c =
-        let c' = rw (drop_more order i d within) at c in none c'.0 c'.1
-
-  -- at the end of the list it is the last fact that is left
-  pub Completes-end : (order : List OpId) (i : ℕ) → length order ≤ i → (keys : Keys) (A : Type 0) → A
-      ↔ Completes program history (listed_in (take i order)) keys (drop i order)
-      → A ↔ EveryFinishedIsListed history (listed_in order)
-  Completes-end order i past keys A last =
-      rw (take_all i order past, drop_all i order past) at last
+  -- where it doesn't, nothing that begins with it completes
+  pub Completes-stuck : (order : List OpId) (i : ℕ) (d : OpId) → i < length order → (keys : Keys)
+      → ((next : Keys) → StandsNext program history (listed_in (take i order)) keys (get_or order i d) next → ⊥)
+      → Completes program history (listed_in (take i order)) keys (drop i order) → ⊥
+  Completes-stuck order i d within keys none c =
+      let first = rw (drop_more order i d within) at c in none first.0 first.1

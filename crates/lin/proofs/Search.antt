@@ -15,9 +15,8 @@ use Rattle.lin.specs.Keys.{Keys, keys_of}
 use Rattle.sched_program.specs.Name.{same_name, value_at}
 use Rattle.lin.specs.Linearization.{IsLinearization}
 use Rattle.lin.specs.Completion.{Listed, listed_in, with_name, StandsNext, Completes, EveryFinishedIsListed, IsHopeless}
-use Rattle.lin.specs.Completion.{MustWait}
 use Rattle.lin.proofs.Names.{each_named, same_name-is, with_name-itself}
-use Rattle.lin.proofs.Completions.{never_late, StandsNext-same, IsLinearization-completes}
+use Rattle.lin.proofs.Completions.{StandsNext-same, IsLinearization-completes}
 use Rattle.lin.proofs.Completions.{Completes-linearization}
 
 listed_push : (order : List OpId) (a : OpId) → listed_in (order ++ a ∷ []) ≡ with_name (listed_in order) a
@@ -107,12 +106,6 @@ CannotComeNext program history listed keys a =
     (rest : List OpId) → Completes program history listed keys (a ∷ rest) → ⊥
 
 module _ (program : Program) (history : History) where
-  -- no list with an operation in front completes if another must come first
-  pub not_yet : (listed : Listed) (keys : Keys) (a : OpId) → MustWait history listed a
-      → CannotComeNext program history listed keys a
-  not_yet listed keys a w rest c =
-      never_late program history (with_name listed a) c.0 rest w.0 a c.2 w.1 w.2.0 (with_name-itself listed a) w.2.1
-
   -- where each begun operation was tried, nothing completes
   pub nothing_left : (listed : Listed) (keys : Keys) → (EveryFinishedIsListed history listed → ⊥)
       → All (λ e. CannotComeNext program history listed keys e.0) history.begun

@@ -11,7 +11,7 @@ use Rattle.lin.specs.Completion.{Listed, listed_in, with_name, EveryFinishedIsLi
 use Rattle.lin.specs.Timeline.{HasPlace, finished_in}
 use Rattle.lin.specs.Progress.{AreBarred}
 use Rattle.lin.proofs.Names.{same_name-is, with_name-cases, with_name-earlier, with_name-itself}
-use Rattle.lin.proofs.Search.{not_yet}
+use Rattle.lin.proofs.Completions.{never_late}
 use Rattle.lin.proofs.Timelines.{finished_placed}
 
 module _ (history : History) (listed barred before : Listed) (name : OpId) (has : HasPlace name)
@@ -53,7 +53,8 @@ module _ (history : History) (listed barred before : Listed) (name : OpId) (has 
         true_from_ne_false (listed a) (λ new. elim (cases_Bool (same_name name a)) [
           | inl same ↦
               c.1.in_time name (with_name-itself listed name) (rw (← same_name-is name a same) at ended)
-          | inr other ↦ not_yet program history listed keys name (a, some, (rw (new, other), ended)) rest c
+          | inr other ↦ never_late program history (with_name listed name) c.0 rest a name c.2 some
+              (rw (new, other) refl) (with_name-itself listed name) ended
         ])
 
 -- with one more operation listed, those that ended before it began are barred too
