@@ -83,7 +83,8 @@ by_test true f g = f refl
 by_test false f g = g refl
 
 -- every finished operation is listed exactly if the one set is within the other
-pub every_listed : (history : History) (finished listed : Listed) → finished ≡ finished_in history.finished
-    → ((a : OpId) → finished a ≡ true → listed a ≡ true) ↔ EveryFinishedIsListed history listed
-every_listed history finished listed are =
+pub every_listed : (history : History) (finished listed stated : Listed) → finished ≡ finished_in history.finished
+    → listed ≡ stated
+    → ((a : OpId) → finished a ≡ true → listed a ≡ true) ↔ EveryFinishedIsListed history stated
+every_listed history finished listed stated are same = rw (← same)
     (λ within a some. within a (ap (λ f. f a) are ∙ some), λ every a among. every a (sym (ap (λ f. f a) are) ∙ among))

@@ -1,7 +1,7 @@
-use Rattle.std.proofs.Common.{refl, ◌≡◌, ℕ, List, [], ◌∷◌, ◌++◌, ◌∙◌, sym, ap, subst, arith, true≢false}
+use Rattle.std.proofs.Common.{refl, ◌≡◌, ℕ, List, [], ◌∷◌, ◌++◌, ◌∙◌, sym, ap, arith, true≢false}
 use Rattle.std.proofs.Common.{append-nil}
 use Rattle.sched_program.specs.declared.operation.OpId.{OpId}
-use Rattle.lin.specs.Completion.{listed_in, EveryFinishedIsListed, IsHopeless}
+use Rattle.lin.specs.Completion.{listed_in, IsHopeless}
 use Rattle.lin.specs.KeySet.{keys_in}
 use Rattle.lin.specs.OpSet.{operations_in}
 use Rattle.lin.specs.Configuration.{IsHopelessAt}
@@ -16,13 +16,8 @@ use Rattle.lin.proofs.searcher.+complete.Goals.{in-Some+in_ok-push+in_ok-complet
 
 pub returns-then-is_within-clause-answer : goal.returns-then-is_within-clause-answer
 returns-then-is_within-clause-answer t c =
-    let within = c.is_within.ensures.0 c.if-is_within.true in
-    let every =
-    (every_listed c.args.timeline.now _ (operations_in c.args.from.at.listed) c.finished.ensures.value).0 within in (
-      [],
-      sym (append-nil c.args.order.now.items),
-      subst (EveryFinishedIsListed c.args.timeline.now) c.requires.listed every,
-    )
+    let listed = every_listed c.args.timeline.now _ _ _ c.finished.ensures.value c.requires.listed in
+    ([], sym (append-nil c.args.order.now.items), listed.0 (c.is_within.ensures.0 c.if-is_within.true))
 
 pub returns-then-contains-clause-answer : goal.returns-then-contains-clause-answer
 returns-then-contains-clause-answer t c =
@@ -86,12 +81,10 @@ hopeless : {t : ℕ} (c : goal.In_ok-insert t)
 hopeless {t} c =
     let history = c.args.timeline.now in
     let order = c.args.order.now.items in
-    let listed = every_listed history _ (operations_in c.args.from.at.listed) c.finished.ensures.value in
-    let missing = λ (every : EveryFinishedIsListed history (listed_in order)).
-    true≢false (sym (c.is_within.ensures.1 (listed.1 (subst (EveryFinishedIsListed history)
-    (sym c.requires.listed) every))) ∙ c.if-is_within.false) in
+    let listed = every_listed history _ _ _ c.finished.ensures.value c.requires.listed in
     let all = take_all c.loop-name.name-index c.begun-name-items.result.now c.loop-name-test.false in
-    nothing_left c.args.program.now history (listed_in order) (keys_in c.args.from.at.keys) missing
+    nothing_left c.args.program.now history (listed_in order) (keys_in c.args.from.at.keys)
+    (λ every. true≢false (sym (c.is_within.ensures.1 (listed.1 every)) ∙ c.if-is_within.false))
     (rw (all, c.begun-name-items.ensures.value) at c.loop-name.invariant.tried)
 
 pub returns-clause-answer : goal.returns-clause-answer
