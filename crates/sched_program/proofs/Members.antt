@@ -17,7 +17,7 @@ use Rattle.sched_program.specs.Text.{IsListOf, HasMember, IsKey, HasKey, HasWord
 use Rattle.sched_program.specs.Text.{HasTree, HasVersion, op_of, word_of}
 use Rattle.sched_program.specs.Faults.{item_count, IsListOfCount, IsListWithin, IsShortListOfKeys, IsListOfDistinctKeys}
 use Rattle.sched_program.specs.Faults.{HasOpCounts, HasWords, HasKeys, AreOpCounts, Passes, earlier}
-use Rattle.sched_program.proofs.Values.{IsUnique, Each-All, of_map_All, same_items, of_member, list_counted, same_count}
+use Rattle.sched_program.proofs.Values.{IsUnique, Each-All, of_map_All, same_items, of_member, list_counted}
 use Rattle.sched_program.proofs.Values.{same_list, list_map, list_both}
 
 -- a list of keys is one of few keys only if its length is
@@ -43,8 +43,7 @@ thread_counts value threads list counts =
 pub within : {A : Type 0} (StandsFor : Data → A → Type 0) (value : Data) (xs : List A) (least most : ℕ)
     → IsListOf StandsFor value xs → IsListWithin least most value → (least ≤ length xs) × (length xs ≤ most)
 within StandsFor value xs least most list bounded =
-    let same : length xs ≡ bounded.0 = same_count StandsFor value xs bounded.0 list bounded.1 in
-    (omega (arith, same, bounded.2, bounded.3), omega (arith, same, bounded.2, bounded.3))
+    rw (same_counted value _ _ (list_counted StandsFor value xs list) bounded.1) (bounded.2, bounded.3)
 
 -- a word and a key are an operation
 pub op_joined : (value : Data) (word : OpWord) (key : ℕ) → HasWord value word → HasKey value key

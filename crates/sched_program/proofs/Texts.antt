@@ -119,7 +119,7 @@ all_threads_pass value program is =
     let each = All-map (λ count. (1 ≤ count) × (count ≤ 6)) length program.threads is.limits.op_counts in
     let total : sum (map length program.threads) ≤ 12 = rw (sum-map length program.threads) is.limits.total in
     threads_pass value program.threads is.threads is.limits.some_thread is.limits.thread_count
-    (let counts : AreOpCounts (map length program.threads) = record { each = each; total = total } in counts)
+    (record { each = each; total = total })
 
 -- a text passes each test
 passes_all : (value : Data) (program : Program) → IsTextOf value program → (fault : ProgramFault) → Passes value fault
@@ -139,24 +139,15 @@ passes_all value program is fault.After =
     (is.version, program.threads, program.turns, is.has_version, is.threads, is.turns, is.limits.turns)
 passes_all value program is fault.OutOfMemory = tt
 
--- what passes a test has not its fault
-not_both : (value : Data) (stated : ProgramFault) → Passes value stated → Stands value stated → stated
-    ≡ fault.OutOfMemory
-not_both value fault.OutOfMemory passes stands = refl
-not_both value stated passes stands = absurd (stands passes)
-
 -- a text has no first fault but a refusal of memory
-pub no_fault : (value : Data) (program : Program) (stated : ProgramFault) → IsTextOf value program
+no_fault : (value : Data) (program : Program) (stated : ProgramFault) → IsTextOf value program
     → IsFirstFault value stated → stated ≡ fault.OutOfMemory
-no_fault value program stated is first = not_both value stated (passes_all value program is stated) first.stands
-
--- the bytes have one value
-pub same_value : (bytes : List ℕ) (value other : Data) → read bytes ≡ Some value → IsJsonOf bytes other → other ≡ value
-same_value bytes value other is json = same_Some _ _ (sym json.reads ∙ is)
+no_fault value program fault.OutOfMemory is first = refl
+no_fault value program stated is first = absurd (first.stands (passes_all value program is stated))
 
 module _ (bytes : List ℕ) (value : Data) (is : read bytes ≡ Some value) where
   of_value : (program : Program) → IsJsonTextOf bytes program → IsTextOf value program
-  of_value program text = subst (λ v. IsTextOf v program) (same_value bytes value text.0 is text.1) text.2
+  of_value program text = rw (same_Some _ _ (sym text.1.reads ∙ is)) at text.2
 
   -- a program of the value is the only one of the bytes
   pub only_program : (answer : Result Program ProgramFault) → IfOk answer (IsTextOf value)

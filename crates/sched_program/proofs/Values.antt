@@ -49,21 +49,14 @@ module _ {A : Type 0} (StandsFor : Data → A → Type 0) where
   Each-more values xs ys i value x below is pushed all here =
       rw (pushed, take_more values i value below, ← is) (Each-push (take i values) xs value x all here)
 
-  -- each value stands for something
-  Each-at : (values : List Value) (xs : List A) (i : ℕ) (d : Value) → i < length values
-      → Each StandsFor (items_view values) xs → (x : A) × StandsFor (view (get_or values i d)) x
-  Each-at [] xs i d below all = absurd (omega arith)
-  Each-at (value ∷ values) [] i d below all = absurd all
-  Each-at (value ∷ values) (x ∷ xs) zero d below all = (x, all.0)
-  Each-at (value ∷ values) (x ∷ xs) (suc i) d below all = Each-at values xs i d (omega arith) all.1
-
   -- a value that stands for nothing
   pub Each-none : (values : List Value) (xs : List A) (i : ℕ) (value : Value) → i < length values
       → value ≡ get_or values i value → ((x : A) → StandsFor (view value) x → ⊥) → Each StandsFor (items_view values) xs
       → ⊥
-  Each-none values xs i value below is none all =
-      let found = Each-at values xs i value below all in
-      none found.0 (subst (λ v. StandsFor (view v) found.0) (sym is) found.1)
+  Each-none [] xs i value below is none all = omega arith
+  Each-none (v ∷ vs) [] i value below is none all = all
+  Each-none (v ∷ vs) (x ∷ xs) zero value below is none all = none x (rw (← is) at all.0)
+  Each-none (v ∷ vs) (x ∷ xs) (suc i) value below is none all = Each-none vs xs i value (omega arith) is none all.1
 
   Each-count : (values : Items) (xs : List A) → Each StandsFor values xs → item_count values ≡ length xs
   Each-count no_items [] all = refl
@@ -73,11 +66,6 @@ module _ {A : Type 0} (StandsFor : Data → A → Type 0) where
   -- a list has as many items as the things that it stands for
   pub list_counted : (value : Data) (xs : List A) → IsListOf StandsFor value xs → IsListOfCount value (length xs)
   list_counted value xs list = (list.0, list.1, Each-count list.0 xs list.2)
-
-  pub same_count : (value : Data) (xs : List A) (count : ℕ) → IsListOf StandsFor value xs → IsListOfCount value count
-      → length xs ≡ count
-  same_count value xs count list counted =
-      sym (Each-count list.0 xs list.2) ∙ ap item_count (same_items value list.0 counted.0 list.1 counted.1) ∙ counted.2
 
   -- what holds of each thing that a value stands for holds of all
   pub Each-All : (P : A → Type 0) → ((value : Data) (x : A) → StandsFor value x → P x) → (values : Items) (xs : List A)
