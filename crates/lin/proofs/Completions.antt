@@ -44,24 +44,6 @@ module _ (order : List OpId) where
 
 module _ (program : Program) (history : History) where
   module _ (order : List OpId) (was : IsLinearization program history order) where
-    stands : (i : ℕ) (d : OpId) (keys : Keys) (o : Op) → i < length order
-        → op_at program (get_or order i d).thread (get_or order i d).index ≡ Some o
-        → IfSome (reply history (get_or order i d)) (λ r. r ≡ reply_on o keys)
-        → StandsNext program history (listed_in (take i order)) keys (get_or order i d) (keys_after o keys)
-    stands i d keys o within is gives = record {
-      begun = was.begun i d within;
-      new = false_from_ne_true _ (λ listed.
-          let at = place_of order i (get_or order i d) listed in
-          was.distinct at.0 i (get_or order i d) at.1 within
-          (at.3 ∙ get_or_default order i d (get_or order i d) within));
-      in_time = λ b listed ended.
-          let at = place_of order (i + 1) b (ap (λ f. f b) (sym (listed_more order i d within)) ∙ listed) in
-          let before = was.in_time i at.0 (get_or order i d) b (slice_get-get_or order i d within)
-          (slice_get-get_or order at.0 b at.2 ∙ ap Some at.3) ended in
-          omega (arith, at.1);
-      gives = rw is (gives, refl);
-    }
-
     -- a linearization completes what begins with its first operations
     completes : (n i : ℕ) (keys : Keys) → n + i ≡ length order → GivesReplies program history keys (drop i order)
         → Completes program history (listed_in (take i order)) keys (drop i order)
@@ -73,12 +55,22 @@ module _ (program : Program) (history : History) where
         let within : i < length order = omega arith in
         let cut = drop_more order i d within in
         let first = first_given program history keys (get_or order i d) (drop (i + 1) order) (rw cut at given) in
+        let x = get_or order i d in
         let next = keys_after first.0 keys in
-        rw cut (
-          next,
-          stands i d keys first.0 within first.1 first.2.0,
-          rw (listed_more order i d within) (completes n (i + 1) next (omega arith) first.2.1),
-        )
+        let more = listed_more order i d within in
+        let stands : StandsNext program history (listed_in (take i order)) keys x next = record {
+          begun = was.begun i d within;
+          new = false_from_ne_true _ (λ listed.
+              let at = place_of order i x listed in
+              was.distinct at.0 i x at.1 within (at.3 ∙ get_or_default order i d x within));
+          in_time = λ b listed ended.
+              let at = place_of order (i + 1) b (ap (λ f. f b) (sym more) ∙ listed) in
+              let before = was.in_time i at.0 x b (slice_get-get_or order i d within)
+              (slice_get-get_or order at.0 b at.2 ∙ ap Some at.3) ended in
+              omega (arith, at.1);
+          gives = rw first.1 (first.2.0, refl);
+        } in
+        rw cut (next, stands, rw more (completes n (i + 1) next (omega arith) first.2.1))
 
   pub IsLinearization-completes : (order : List OpId) → IsLinearization program history order
       → Completes program history (listed_in []) (keys_of program.initial) order

@@ -44,19 +44,6 @@ module _ {V T : Type 0} (P : Option V → T → Type 0) where
   abbrev pub HoldsAtPlaces : List (OpId × V) → List T → Type 0
   HoldsAtPlaces entries table = (a : OpId) (d : T) → HasPlace a → P (value_at entries a) (get_or table (place_of a) d)
 
-  -- holds with one more entry in front, once the table has its value
-  pub holds_with : (x : OpId × V) (rest : List (OpId × V)) (table : List T) (place : ℕ) (t : T) → HasPlace x.0
-      → place ≡ place_of x.0 → place < length table → P (Some x.1) t
-      → HoldsAtPlaces rest table → HoldsAtPlaces (x ∷ rest) (set table place t)
-  holds_with x rest table place t has e within here before a d has_a = elim (cases_Bool (same_name x.0 a)) [
-    | inl same ↦
-        let at : place_of a ≡ place = rw (← same_name-is x.0 a same) (sym e) in
-        rw (same, get_or-set_at table place (place_of a) t d at within) here
-    | inr differs ↦
-        let other : place_of a ≢ place = λ at. places_differ x.0 a has.1 has_a.1 differs (at ∙ e) in
-        rw (differs, get_or-set_other table place (place_of a) t d other) (before a d has_a)
-  ]
-
   -- holds with the entry before those that are left of a list, once the table has its value
   pub holds_before : (entries : List (OpId × V)) (i : ℕ) (x d : OpId × V) (table : List T) (place : ℕ) (t : T) → 0 < i
       → i ≤ length entries → x ≡ get_or entries (i - 1) d
@@ -64,8 +51,14 @@ module _ {V T : Type 0} (P : Option V → T → Type 0) where
       → HoldsAtPlaces (drop i entries) table → HoldsAtPlaces (drop (i - 1) entries) (set table place t)
   holds_before entries i x d table place t some within is has e in_table here before =
       let next : i - 1 + 1 ≡ i = omega arith in
-      rw (drop_more entries (i - 1) d (omega arith), ← is, next)
-      (holds_with x (drop i entries) table place t has e in_table here before)
+      rw (drop_more entries (i - 1) d (omega arith), ← is, next) (λ a b has_a. elim (cases_Bool (same_name x.0 a)) [
+        | inl same ↦
+            let at : place_of a ≡ place = rw (← same_name-is x.0 a same) (sym e) in
+            rw (same, get_or-set_at table place (place_of a) t b at in_table) here
+        | inr differs ↦
+            let other : place_of a ≢ place = λ at. places_differ x.0 a has.1 has_a.1 differs (at ∙ e) in
+            rw (differs, get_or-set_other table place (place_of a) t b other) (before a b has_a)
+      ])
 
 -- the operations of a history have places: those that began, and so those that are finished
 module _ (history : History) (events : IsHistory history) where
