@@ -1,17 +1,16 @@
 -- A list is a linearization exactly if it completes one from nothing.
 use Rattle.std.proofs.Common.{◌≡◌, ℕ, zero, suc, ◌+◌, ◌<◌, ◌≤◌, inl, inr, false, true, true≢false, List, [], ◌∷◌, length}
-use Rattle.std.proofs.Common.{get_or, take, drop, Some, IsSome, IfSome, slice_get, refl, sym, ap, ◌∙◌, arith, ◌↔◌}
+use Rattle.std.proofs.Common.{get_or, take, drop, Some, IsSome, slice_get, refl, sym, ap, ◌∙◌, arith, ◌↔◌}
 use mathlib.Core.Path.{fun_ext}
 use Rattle.std.proofs.lemmas.Bool.{cases_Bool, cases_lt, false_from_ne_true}
 use Rattle.std.proofs.lemmas.List.{drop_more, take_all, drop_all, length-take, get_or-take, get_or_default}
 use Rattle.std.proofs.lemmas.List.Folds.{list_any_more}
 use Rattle.std.proofs.lemmas.Option.{slice_get_within, slice_get-get_or, get_or_from_slice_get}
 use Rattle.sched_program.specs.declared.operation.OpId.{OpId}
-use Rattle.sched_program.specs.declared.operation.Op.{Op}
 use Rattle.sched_program.specs.Name.{same_name}
 use Rattle.sched_program.specs.Program.{Program, op_at}
 use Rattle.sched_program.specs.History.{History, reply, EndedBefore}
-use Rattle.lin.specs.Keys.{Keys, keys_of, keys_after, reply_on}
+use Rattle.lin.specs.Keys.{Keys, keys_of, keys_after}
 use Rattle.lin.specs.Linearization.{GivesReplies, IsLinearization}
 use Rattle.lin.specs.Completion.{Listed, listed_in, with_name, StandsNext, Completes, EveryFinishedIsListed}
 use Rattle.lin.proofs.Bounds.{first_given}
