@@ -1,6 +1,6 @@
 -- A linearization before a reply is one after it exactly if running it gives that reply.
 use Rattle.std.proofs.Common.{◌≡◌, ◌≢◌, ℕ, ◌≤◌, inl, inr, Bool, true, false, true≢false, List, [], ◌∷◌, length}
-use Rattle.std.proofs.Common.{Option, Some, None, IfSome, refl, sym, ◌∙◌, arith}
+use Rattle.std.proofs.Common.{Option, Some, None, refl, sym, ◌∙◌, arith}
 use Rattle.std.specs.Prelude.{MatchOption}
 use mathlib.Core.Bool.{beq}
 use Rattle.std.specs.Option.{option_map}
@@ -17,7 +17,7 @@ use Rattle.lin.specs.Reply.{reply_in, ending_with, HasReplied}
 use Rattle.lin.proofs.Bounds.{at_most_twelve, first_given}
 use Rattle.lin.proofs.Completions.{IsLinearization-completes, Completes-linearization}
 use Rattle.lin.proofs.Names.{same_name_self, same_name-is, with_name-cases, with_name-earlier, with_name-itself}
-use Rattle.lin.proofs.Lists.{IsSome-value, IsSomeAnd-value, IsSomeAnd-of}
+use Rattle.lin.proofs.Lists.{IsSome-value, IsSomeAnd-value}
 
 differ : (a b : OpId) → same_name b a ≡ false → a ≢ b
 differ a b other same = true≢false (sym (same_name_self b) ∙ rw same at other)
@@ -59,25 +59,28 @@ module _ (program : Program) (old new : History) (a : OpId) (r : Bool) (is : Has
     | inr other ↦ every b (rw (is.others b (differ a b other)) at finished)
   ]
 
-  -- ---- what could come next still can, where it gives its reply
-  stands_new : (listed : Listed) (keys next : Keys) (b : OpId) → AllBegun listed
-      → StandsNext program old listed keys b next
-      → ((o : Op) → op_at program b.thread b.index ≡ Some o → IfSome (reply new b) (λ s. s ≡ reply_on o keys))
-      → StandsNext program new listed keys b next
-  stands_new listed keys next b begun s replies =
+  -- ---- what could come next still can, and this operation where it gives its reply
+  stands_other : (listed : Listed) (keys next : Keys) (b : OpId) → AllBegun listed
+      → StandsNext program old listed keys b next → a ≢ b → StandsNext program new listed keys b next
+  stands_other listed keys next b begun s other =
       let op = IsSomeAnd-value (op_at program b.thread b.index) _ s.gives in
       record {
         begun = rw (note_of b s.begun).2 refl;
         new = s.new;
         in_time = λ c among ended.
             s.in_time c among (ended_back b c (begun_with listed b begun s.begun c among) ended);
-        gives = rw op.1 (replies op.0 op.1, op.2.1);
+        gives = rw (op.1, is.others b other) op.2;
       }
 
-  stands_other : (listed : Listed) (keys next : Keys) (b : OpId) → AllBegun listed
-      → StandsNext program old listed keys b next → a ≢ b → StandsNext program new listed keys b next
-  stands_other listed keys next b begun s other =
-      stands_new listed keys next b begun s (λ o at. rw (is.others b other) (rw at at s.gives).0)
+  stands_itself : (listed : Listed) (keys : Keys) (o : Op) → listed a ≡ false
+      → op_at program a.thread a.index ≡ Some o → r ≡ reply_on o keys
+      → StandsNext program new listed keys a (keys_after o keys)
+  stands_itself listed keys o fresh at gives = record {
+    begun = is.began;
+    new = fresh;
+    in_time = λ b among. is.last b;
+    gives = rw at (rw is.replied gives, refl);
+  }
 
   rest_completes : (listed : Listed) (keys : Keys) (rest : List OpId) → AllBegun listed → listed a ≡ true
       → Completes program old listed keys rest → Completes program new listed keys rest
@@ -95,12 +98,7 @@ module _ (program : Program) (old new : History) (a : OpId) (r : Bool) (is : Has
   completes_ending listed keys [] begun fresh every stated =
       let own = op_of_reply (op_at program a.thread a.index) keys r stated in (
         keys_after own.0 keys,
-        record {
-          begun = is.began;
-          new = fresh;
-          in_time = λ b among. is.last b;
-          gives = IsSomeAnd-of (op_at program a.thread a.index) _ own.0 own.1 (rw is.replied own.2, refl);
-        },
+        stands_itself listed keys own.0 fresh own.1 own.2,
         every_new (with_name listed a) (with_name-itself listed a)
             (λ b finished. with_name-earlier listed a b (every b finished)),
       )
@@ -109,13 +107,11 @@ module _ (program : Program) (old new : History) (a : OpId) (r : Bool) (is : Has
       elim (cases_Bool (same_name b a)) [
         | inl same ↦
             let e = same_name-is b a same in
-            let own : reply new b ≡ Some r = rw e is.replied in
-            let replies : (o : Op) → op_at program b.thread b.index ≡ Some o
-            → IfSome (reply new b) (λ s. s ≡ reply_on o keys) =
-            λ o at. let here : Some (reply_on o keys) ≡ Some r = rw (same, ← e, at) at stated in rw own cc in
+            let own = op_of_reply (op_at program a.thread a.index) keys r (rw same at stated) in
+            let gives = rw (e, own.1) at c.1.gives in
             rw same (
               c.0,
-              stands_new listed keys c.0 b begun c.1 replies,
+              rw (e, gives.1) (stands_itself listed keys own.0 fresh own.1 own.2),
               rest_completes (with_name listed b) c.0 rest begun' (rw (← e) (with_name-itself listed b)) c.2,
             )
         | inr other ↦

@@ -1,5 +1,5 @@
 -- A value is the text of one program at most, and a text has no fault.
-use Rattle.std.proofs.Common.{◌≡◌, ◌≢◌, ℕ, ◌≤◌, List, length, get_or, map, arith, subst, refl, sym, ap, ◌∙◌}
+use Rattle.std.proofs.Common.{◌≡◌, ◌≢◌, ℕ, ◌≤◌, List, length, get_or, map, arith, refl, sym, ap, ◌∙◌}
 use Rattle.std.proofs.Common.{Some, None, Result, Ok, Err, IfOk, IfErr, codes, sum}
 use Rattle.std.proofs.lemmas.Option.{same_Some}
 use Rattle.std.proofs.lemmas.List.Sums.{sum-map}
@@ -20,9 +20,9 @@ use Rattle.sched_program.specs.declared.fault.ProgramFault.{ProgramFault}
 use Rattle.sched_program.specs.declared.fault.ProgramFault.TheVariants as fault
 use Rattle.sched_program.specs.Program.{Program, key_of}
 use Rattle.sched_program.specs.Text.{IsListOf, IsKey, IsOp, IsTurn, HasThreads, HasTurn, HasTurns, HasVersion}
-use Rattle.sched_program.specs.Text.{version_number, op_of, word_of, word_text, tree_name, IsTextOf, IsJsonOf}
+use Rattle.sched_program.specs.Text.{version_number, op_of, word_of, word_text, tree_name, IsTextOf}
 use Rattle.sched_program.specs.Text.{IsJsonTextOf}
-use Rattle.sched_program.specs.Faults.{AreOpCounts, Passes, Stands, IsFirstFault}
+use Rattle.sched_program.specs.Faults.{Passes, IsFirstFault}
 use Rattle.sched_program.proofs.Values.{IsUnique, same_list, same_member}
 use Rattle.sched_program.proofs.Members.{same_key, threads_pass}
 
