@@ -198,7 +198,8 @@ join_kept size id v other w knows s kept at apart at' =
     let here : get_elem? without id ≡ some v = set_else s.views other id no_seat (λ e. apart (sym e)) ∙ at in
     let out = with_others s.views other w was in
     let in' = rw (set_comm s.views other id no_seat both apart) at (changed without id v both w.places here refl) in
-    let drawn = IsPermutation-trans _ _ _ h.drawn (IsPermutation-trans _ _ _ (IsPermutation-sym _ _ out.drawn) in'.drawn) in
+    let moved = IsPermutation-trans _ _ _ (IsPermutation-sym _ _ out.drawn) in'.drawn in
+    let drawn = IsPermutation-trans _ _ _ h.drawn moved in
     let mine = fits_of size s.views id v h.fits at in
     let others = fits_of size s.views other w h.fits was in (
       kept.0,

@@ -45,7 +45,8 @@ is_named s zero (ops ∷ rest) a e h =
     let thread : a.thread ≡ s = omega arith in
     rw list_any-append (or_left _ _ (list_any_at (same_name a) (map name (range_with_len 0 (length ops))) a.index a
     (omega (arith, length-map-range_with_len name 0 (length ops)))
-    (rw (get_or-map-range_with_len name 0 (length ops) a.index a.index a below (omega arith), ← thread) (same_name_self a))))
+    (rw (get_or-map-range_with_len name 0 (length ops) a.index a.index a below (omega arith), ← thread)
+    (same_name_self a))))
 is_named s (suc t) (ops ∷ rest) a e h =
     rw list_any-append (or_right _ _ (is_named (suc s) t rest a (omega arith) h))
 
@@ -70,7 +71,8 @@ module _ (program : Program) where
   at_most_twelve limits history order is =
       let names = names_from 0 program.threads in
       let named = all_given (λ a. list_any (same_name a) names ≡ true)
-      (λ a o e. is_named 0 a.thread program.threads a (omega arith) (rw e refl)) history (keys_of program.initial) order is.replies in
+      (λ a o e. is_named 0 a.thread program.threads a (omega arith) (rw e refl)) history (keys_of program.initial)
+      order is.replies in
       let distinct =
       IsDistinct-from_AllPairs (λ a b. (same_name-is a b, λ e. rw e (same_name_self b))) order is.distinct in
       let fewer : length order ≤ length names =

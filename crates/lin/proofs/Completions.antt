@@ -1,6 +1,6 @@
 -- A list is a linearization exactly if it completes one from nothing.
-use Rattle.std.proofs.Common.{◌≡◌, ℕ, zero, suc, ◌+◌, ◌<◌, ◌≤◌, inl, inr, false, true, true≢false, List, [], ◌∷◌, length}
-use Rattle.std.proofs.Common.{get_or, take, drop, Some, IsSome, slice_get, refl, sym, ap, ◌∙◌, arith, ◌↔◌}
+use Rattle.std.proofs.Common.{◌≡◌, ℕ, zero, suc, ◌+◌, ◌<◌, ◌≤◌, inl, inr, false, true, true≢false, List, [], ◌∷◌}
+use Rattle.std.proofs.Common.{length, get_or, take, drop, Some, IsSome, slice_get, refl, sym, ap, ◌∙◌, arith, ◌↔◌}
 use mathlib.Core.Path.{fun_ext}
 use Rattle.std.proofs.lemmas.Bool.{cases_Bool, cases_lt, false_from_ne_true}
 use Rattle.std.proofs.lemmas.List.{drop_more, take_all, drop_all, length-take, get_or-take, get_or_default}

@@ -21,4 +21,5 @@ pub returns : goal.returns
 returns c =
     let all = take_all c.loop-name.name-index c.finished-name-items.result.now c.loop-name-test.false in
     let listed = rw (all, c.finished-name-items.ensures.value) at c.loop-name.invariant in
-    (λ yes a. each_named (λ b. listed_in c.args.listed.now b ≡ true) c.args.history.now.finished a listed, λ every. refl)
+    let named = each_named (λ b. listed_in c.args.listed.now b ≡ true) c.args.history.now.finished in
+    (λ yes a. named a listed, λ every. refl)

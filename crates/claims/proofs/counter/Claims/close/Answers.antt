@@ -18,7 +18,8 @@ returns c =
     ends_at _ _ _ _ last.0 _ last.1 c.self.invariant.0 all
     (first_word last.0.words _ c.word-word.result last.2 c.word-word.ensures) in
     let once : IsPermutation (below c.min-drawn.result) (places_drawn c.args.seats.items) =
-    rw c.min-drawn.ensures (IsPermutation-trans _ _ _ end.drawn (IsPermutation-sym _ _ c.gather-whole.ensures.places)) in
+    rw c.min-drawn.ensures
+    (IsPermutation-trans _ _ _ end.drawn (IsPermutation-sym _ _ c.gather-whole.ensures.places)) in
     record {
       once = once;
       drawn = sym (length_permutation _ _ once ∙ length-range_with_len 0 c.min-drawn.result);
