@@ -1,177 +1,147 @@
 -- A list is a linearization exactly if it completes one from nothing.
-use Rattle.std.proofs.Common.{◌≡◌, ◌≢◌, ℕ, zero, suc, ◌+◌, ◌<◌, ◌≤◌, ◌⊎◌, inl, inr, true, false, true≢false, List, []}
-use Rattle.std.proofs.Common.{◌∷◌, length, get_or, take, drop, Some, IsSome, IfSome, All, AllPairs, Contains, slice_get}
-use Rattle.std.proofs.Common.{refl, sym, ◌∙◌, arith, rules, ◌↔◌}
+use Rattle.std.proofs.Common.{◌≡◌, ℕ, zero, suc, ◌+◌, ◌<◌, ◌≤◌, inl, inr, false, true, true≢false, List, [], ◌∷◌}
+use Rattle.std.proofs.Common.{length, get_or, take, drop, Some, IsSome, slice_get, refl, sym, ap, ◌∙◌, arith, ◌↔◌}
 use mathlib.Core.Path.{fun_ext}
-use Rattle.std.proofs.lemmas.Bool.{or_parts, or_from, false_from_ne_true}
-use Rattle.std.proofs.lemmas.List.Elements.{All-head, All-tail, All-cons, Contains-get_or}
-use Rattle.std.proofs.lemmas.List.{drop_more, take_all, drop_all}
+use Rattle.std.proofs.lemmas.Bool.{cases_Bool, cases_lt, false_from_ne_true}
+use Rattle.std.proofs.lemmas.List.{drop_more, take_all, drop_all, length-take, get_or-take, get_or_default}
 use Rattle.std.proofs.lemmas.List.Folds.{list_any_more}
-use Rattle.std.proofs.lemmas.List.Kept.{AllPairs-cons}
+use Rattle.std.proofs.lemmas.Option.{slice_get_within, slice_get-get_or, get_or_from_slice_get}
 use Rattle.sched_program.specs.declared.operation.OpId.{OpId}
-use Rattle.sched_program.specs.declared.operation.Op.{Op}
-use Rattle.sched_program.specs.Program.{Program}
-use Rattle.sched_program.specs.History.{History}
-use Rattle.lin.specs.Keys.{Keys, keys_of, keys_after, reply_on}
 use Rattle.sched_program.specs.Name.{same_name}
-use Rattle.sched_program.specs.Program.{op_at}
-use Rattle.sched_program.specs.History.{reply, IsBegun, EndedBefore}
+use Rattle.sched_program.specs.Program.{Program, op_at}
+use Rattle.sched_program.specs.History.{History, reply, EndedBefore}
+use Rattle.lin.specs.Keys.{Keys, keys_of, keys_after}
 use Rattle.lin.specs.Linearization.{GivesReplies, IsLinearization}
 use Rattle.lin.specs.Completion.{Listed, listed_in, with_name, StandsNext, Completes, EveryFinishedIsListed}
 use Rattle.lin.proofs.Bounds.{first_given}
-use Rattle.lin.proofs.Names.{same_name_self, same_name-is, with_name-cases, with_name-earlier, with_name-itself}
-use Rattle.lin.proofs.Lists.{IsSomeAnd-value, Contains-head, Contains-tail, Contains-cases}
-use Rattle.lin.proofs.Lists.{not-Contains-nil, slice_get-Contains, Contains-slice_get, AllPairs-tail, AllPairs-first}
+use Rattle.lin.proofs.Lists.{IsSomeAnd-value}
+use Rattle.lin.proofs.Names.{same_name-is, with_name-earlier, listed-Contains, Contains-listed}
 
--- the facts of a linearization, of a list that follows a set of operations
-pub record IsLinearizationAfter (program : Program) (history : History) (listed : Listed) (keys : Keys)
-    (rest : List OpId) : Type 0 where
-  pub begun : All (IsBegun history) rest
-  pub distinct : AllPairs (λ a b. a ≢ b) rest
-  pub new : (a : OpId) → Contains rest a → listed a ≡ false
-  pub complete : (a : OpId) → IsSome (reply history a) → (listed a ≡ true) ⊎ Contains rest a
-  pub in_time : (i j : ℕ) (a b : OpId) → slice_get rest i ≡ Some a → slice_get rest j ≡ Some b → EndedBefore history a b
-      → i < j
-  pub after : (a b : OpId) → Contains rest a → listed b ≡ true → EndedBefore history a b → ⊥
-  pub replies : GivesReplies program history keys rest
+module _ (order : List OpId) where
+  -- one more operation is listed
+  pub listed_more : (i : ℕ) (d : OpId) → i < length order
+      → with_name (listed_in (take i order)) (get_or order i d) ≡ listed_in (take (i + 1) order)
+  listed_more i d within = fun_ext (λ a. sym (list_any_more (λ b. same_name b a) order i d within))
+
+  -- the first operations of the list are those at the first places
+  place_of : (n : ℕ) (a : OpId) → listed_in (take n order) a ≡ true
+      → (k : ℕ) × (k < n) × (k < length order) × (get_or order k a ≡ a)
+  place_of n a listed =
+      let among = Contains-listed (take n order) a listed in
+      let below : (among.0 < n) × (among.0 < length order) =
+      (omega (arith, among.1, length-take n order), omega (arith, among.1, length-take n order)) in
+      (among.0, below.0, below.1, sym (get_or-take n order among.0 a below.0) ∙ among.2)
+
+  listed_at : (n k : ℕ) (a : OpId) → k < n → slice_get order k ≡ Some a → listed_in (take n order) a ≡ true
+  listed_at n k a below at =
+      let within = slice_get_within order k a at in
+      listed-Contains (take n order) a (
+        k,
+        omega (arith, length-take n order),
+        get_or-take n order k a below ∙ get_or_from_slice_get order k a a at,
+      )
 
 module _ (program : Program) (history : History) where
-  stands : (listed : Listed) (keys : Keys) (x : OpId) (xs : List OpId) (o : Op)
-      → op_at program x.thread x.index ≡ Some o → IfSome (reply history x) (λ r. r ≡ reply_on o keys)
-      → IsLinearizationAfter program history listed keys (x ∷ xs)
-      → StandsNext program history listed keys x (keys_after o keys)
-  stands listed keys x xs o is gives l = record {
-    begun = All-head (IsBegun history) x xs l.begun;
-    new = l.new x (Contains-head x xs);
-    in_time = λ b among ended. elim (with_name-cases listed x b among) [
-      | inl earlier ↦ l.after x b (Contains-head x xs) earlier ended
-      | inr same ↦ not_itself (rw (← same) at ended)
-    ];
-    gives = rw is (gives, refl);
-  }
-    where
-      not_itself : EndedBefore history x x → ⊥
-      not_itself ended = omega (arith, l.in_time 0 0 x x refl refl ended)
+  module _ (order : List OpId) (was : IsLinearization program history order) where
+    -- a linearization completes what begins with its first operations
+    completes : (n i : ℕ) (keys : Keys) → n + i ≡ length order → GivesReplies program history keys (drop i order)
+        → Completes program history (listed_in (take i order)) keys (drop i order)
+    completes zero i keys e given =
+        rw (take_all i order (omega arith), drop_all i order (omega arith))
+        (λ a finished. listed-Contains order a (was.complete a finished))
+    completes (suc n) i keys e given =
+        let d : OpId = record { thread = 0; index = 0 } in
+        let within : i < length order = omega arith in
+        let cut = drop_more order i d within in
+        let first = first_given program history keys (get_or order i d) (drop (i + 1) order) (rw cut at given) in
+        let x = get_or order i d in
+        let next = keys_after first.0 keys in
+        let more = listed_more order i d within in
+        let stands : StandsNext program history (listed_in (take i order)) keys x next = record {
+          begun = was.begun i d within;
+          new = false_from_ne_true _ (λ listed.
+              let at = place_of order i x listed in
+              was.distinct at.0 i x at.1 within (at.3 ∙ get_or_default order i d x within));
+          in_time = λ b listed ended.
+              let at = place_of order (i + 1) b (ap (λ f. f b) (sym more) ∙ listed) in
+              let before = was.in_time i at.0 x b (slice_get-get_or order i d within)
+              (slice_get-get_or order at.0 b at.2 ∙ ap Some at.3) ended in
+              omega (arith, at.1);
+          gives = rw first.1 (first.2.0, refl);
+        } in
+        rw cut (next, stands, rw more (completes n (i + 1) next (omega arith) first.2.1))
 
-  rest_of : (listed : Listed) (keys next : Keys) (x : OpId) (xs : List OpId) → GivesReplies program history next xs
-      → IsLinearizationAfter program history listed keys (x ∷ xs)
-      → IsLinearizationAfter program history (with_name listed x) next xs
-  rest_of listed keys next x xs gives l = record {
-    begun = All-tail (IsBegun history) x xs l.begun;
-    distinct = AllPairs-tail (λ a b. a ≢ b) x xs l.distinct;
-    new = λ a among. or_from (listed a) (same_name x a) (l.new a (Contains-tail x xs a among))
-        (false_from_ne_true (same_name x a)
-        (λ same. AllPairs-first (λ a b. a ≢ b) x xs l.distinct a among (same_name-is x a same)));
-    complete = λ a finished. elim (l.complete a finished) [
-      | inl earlier ↦ inl (with_name-earlier listed x a earlier)
-      | inr among ↦ elim (Contains-cases x xs a among) [
-        | inl same ↦ inl (rw (← same) (with_name-itself listed x))
-        | inr later ↦ inr later
-      ]
-    ];
-    in_time = λ i j a b at_i at_j ended. omega (arith, l.in_time (suc i) (suc j) a b at_i at_j ended);
-    after = λ a b among earlier ended. elim (with_name-cases listed x b earlier) [
-      | inl before ↦ l.after a b (Contains-tail x xs a among) before ended
-      | inr same ↦ not_before a (slice_get-Contains xs a among) (rw same ended)
-    ];
-    replies = gives;
-  }
-    where
-      not_before : (a : OpId) → (k : ℕ) × (slice_get xs k ≡ Some a) → EndedBefore history a x → ⊥
-      not_before a at ended = omega (arith, l.in_time (suc at.0) 0 a x at.1 refl ended)
-
-  completes : (listed : Listed) (keys : Keys) (rest : List OpId) → IsLinearizationAfter program history listed keys rest
-      → Completes program history listed keys rest
-  completes listed keys [] l =
-      λ a finished. elim (l.complete a finished) [
-        | inl earlier ↦ earlier
-        | inr among ↦ absurd (not-Contains-nil a among)
-      ]
-  completes listed keys (x ∷ xs) l =
-      let first = first_given program history keys x xs l.replies in
-      let next = keys_after first.0 keys in (
-        next,
-        stands listed keys x xs first.0 first.1 first.2.0 l,
-        completes (with_name listed x) next xs (rest_of listed keys next x xs first.2.1 l),
-      )
-
-  pub completes_linearization_after : (listed : Listed) (keys : Keys) (rest : List OpId)
-      → Completes program history listed keys rest → IsLinearizationAfter program history listed keys rest
-  completes_linearization_after listed keys [] every = record {
-    begun = λ k d below. absurd (omega arith);
-    distinct = λ i j d below within. absurd (omega arith);
-    new = λ a among. absurd (not-Contains-nil a among);
-    complete = λ a finished. inl (every a finished);
-    in_time = λ i j a b at_i at_j ended. absurd cc;
-    after = λ a b among earlier ended. not-Contains-nil a among;
-    replies = tt;
-  }
-  completes_linearization_after listed keys (x ∷ xs) c =
-      first_of_rest listed keys c.0 x xs c.1 (completes_linearization_after (with_name listed x) c.0 xs c.2)
-    where
-      first_of_rest : (listed : Listed) (keys next : Keys) (x : OpId) (xs : List OpId)
-          → StandsNext program history listed keys x next
-          → IsLinearizationAfter program history (with_name listed x) next xs
-          → IsLinearizationAfter program history listed keys (x ∷ xs)
-      first_of_rest listed keys next x xs s l = record {
-        begun = All-cons (IsBegun history) x xs s.begun l.begun;
-        distinct = AllPairs-cons (λ a b. a ≢ b) x xs
-            (λ k d below. different (get_or xs k d) (Contains-get_or xs k d below)) l.distinct;
-        new = λ a among. elim (Contains-cases x xs a among) [
-          | inl same ↦ rw same at s.new
-          | inr later ↦ (or_parts (listed a) (same_name x a) (l.new a later)).0
-        ];
-        complete = λ a finished. elim (l.complete a finished) [
-          | inl earlier ↦ elim (with_name-cases listed x a earlier) [
-            | inl before ↦ inl before
-            | inr same ↦ inr (rw (← same) (Contains-head x xs))
-          ]
-          | inr later ↦ inr (Contains-tail x xs a later)
-        ];
-        in_time = places;
-        after = λ a b among earlier ended. elim (Contains-cases x xs a among) [
-          | inl same ↦ s.in_time b (with_name-earlier listed x b earlier) (rw same ended)
-          | inr later ↦ l.after a b later (with_name-earlier listed x b earlier) ended
-        ];
-        replies =
-            let gives = IsSomeAnd-value (op_at program x.thread x.index) _ s.gives in
-            rw gives.1 (gives.2.0, rw (← gives.2.1) l.replies);
-      }
-        where
-          different : (y : OpId) → Contains xs y → x ≢ y
-          different y among same =
-              let other = (or_parts (listed y) (same_name x y) (l.new y among)).1 in
-              true≢false (sym (same_name_self x) ∙ rw (← same) at other)
-
-          places : (i j : ℕ) (a b : OpId) → slice_get (x ∷ xs) i ≡ Some a → slice_get (x ∷ xs) j ≡ Some b
-              → EndedBefore history a b → i < j
-          places zero zero a b at_i at_j ended =
-              let first : a ≡ x = cc in
-              let second : b ≡ x = cc in
-              absurd (s.in_time x (with_name-itself listed x) (rw (first, second) at ended))
-          places zero (suc j) a b at_i at_j ended = omega arith
-          places (suc i) zero a b at_i at_j ended =
-              let second : x ≡ b = cc in
-              absurd (l.after a x (Contains-slice_get xs i a at_i) (with_name-itself listed x) (rw second ended))
-          places (suc i) (suc j) a b at_i at_j ended = omega (arith, l.in_time i j a b at_i at_j ended)
-
-  -- a linearization completes what begins with nothing, and what completes that is a linearization
   pub IsLinearization-completes : (order : List OpId) → IsLinearization program history order
       → Completes program history (listed_in []) (keys_of program.initial) order
-  IsLinearization-completes order l = completes (listed_in []) (keys_of program.initial) order (
-      let new : (a : OpId) → Contains order a → listed_in [] a ≡ false = λ a among. refl in search rules
-      )
+  IsLinearization-completes order was =
+      completes order was (length order) 0 (keys_of program.initial) (omega arith) was.replies
 
+  -- what a list says that completes what begins with its first operations
+  record Completed (order : List OpId) (i : ℕ) (keys : Keys) : Type 0 where
+    each : (j : ℕ) (a : OpId) → i ≤ j → slice_get order j ≡ Some a
+        → (now next : Keys) × StandsNext program history (listed_in (take j order)) now a next
+    every : EveryFinishedIsListed history (listed_in order)
+    replies : GivesReplies program history keys (drop i order)
+
+  completed : (order : List OpId) (n i : ℕ) (keys : Keys) → n + i ≡ length order
+      → Completes program history (listed_in (take i order)) keys (drop i order) → Completed order i keys
+  completed order zero i keys e every = record {
+    each = λ j a from at. absurd (omega (arith, slice_get_within order j a at));
+    every = rw (take_all i order (omega arith), drop_all i order (omega arith)) at every;
+    replies = rw (drop_all i order (omega arith)) tt;
+  }
+  completed order (suc n) i keys e c =
+      let d : OpId = record { thread = 0; index = 0 } in
+      let within : i < length order = omega arith in
+      let first = rw (drop_more order i d within) at c in
+      let rest = completed order n (i + 1) first.0 (omega arith) (rw (listed_more order i d within) at first.2) in
+      let gives = IsSomeAnd-value (op_at program (get_or order i d).thread (get_or order i d).index) _ first.1.gives in
+      record {
+        each = λ j a from at. elim (cases_lt i j) [
+          | inl later ↦ rest.each j a (omega arith) at
+          | inr here ↦
+              let same : j ≡ i = omega arith in
+              rw (same, ← get_or_from_slice_get order i a d (rw same at at)) (keys, first.0, first.1)
+        ];
+        every = rest.every;
+        replies = rw (drop_more order i d within, gives.1) (gives.2.0, rw (← gives.2.1) rest.replies);
+      }
+
+  -- what completes what begins with nothing is a linearization
   pub Completes-linearization : (order : List OpId)
       → Completes program history (listed_in []) (keys_of program.initial) order → IsLinearization program history order
   Completes-linearization order c =
-      let l = completes_linearization_after (listed_in []) (keys_of program.initial) order c in
-      let complete : (a : OpId) → IsSome (reply history a) → Contains order a =
-      λ a finished. elim (l.complete a finished) [
-        | inl earlier ↦ absurd (true≢false (sym earlier))
-        | inr among ↦ among
-      ] in
-      search rules
+      let all = completed order (length order) 0 (keys_of program.initial) (omega arith) c in
+      record {
+        begun = λ k d within. (all.each k _ (omega arith) (slice_get-get_or order k d within)).2.begun;
+        distinct = λ i j d before within same.
+            let late = (all.each j _ (omega arith) (slice_get-get_or order j d within)).2.new in
+            let early = listed_at order j i _ before (slice_get-get_or order i d (omega arith)) in
+            true≢false (sym early ∙ rw (← same) at late);
+        complete = λ a finished. Contains-listed order a (all.every a finished);
+        in_time = λ i j a b at_i at_j ended. elim (cases_lt i j) [
+          | inl before ↦ before
+          | inr late ↦
+              let within = slice_get_within order i a at_i in
+              let more = rw (get_or_from_slice_get order i a a at_i) at (listed_more order i a within) in
+              absurd ((all.each i a (omega arith) at_i).2.in_time b
+              (ap (λ f. f b) more ∙ listed_at order (i + 1) j b (omega arith) at_j) ended)
+        ];
+        replies = all.replies;
+      }
+
+  -- in a list that completes, no finished operation that is not listed ended before a listed one began
+  pub never_late : (listed : Listed) (keys : Keys) (rest : List OpId) (late name : OpId)
+      → Completes program history listed keys rest → IsSome (reply history late) → listed late ≡ false
+      → listed name ≡ true → EndedBefore history late name → ⊥
+  never_late listed keys [] late name every finished new among ended =
+      true≢false (sym (every late finished) ∙ new)
+  never_late listed keys (x ∷ xs) late name c finished new among ended = elim (cases_Bool (same_name x late)) [
+    | inl same ↦
+        c.1.in_time name (with_name-earlier listed x name among) (rw (← same_name-is x late same) at ended)
+    | inr other ↦ never_late (with_name listed x) c.0 xs late name c.2 finished (rw (new, other) refl)
+        (with_name-earlier listed x name among) ended
+  ]
 
   -- an operation that comes next leaves one set of keys
   pub StandsNext-same : (listed : Listed) (keys next next' : Keys) (a : OpId)
@@ -181,41 +151,24 @@ module _ (program : Program) (history : History) where
       let two = IsSomeAnd-value (op_at program a.thread a.index) _ t.gives in
       cc (one.1, two.1, one.2.1, two.2.1)
 
-  pub Completes-first : (listed : Listed) (keys next : Keys) (x : OpId) (rest : List OpId)
-      → StandsNext program history listed keys x next
-      → Completes program history listed keys (x ∷ rest) ↔ Completes program history (with_name listed x) next rest
-  Completes-first listed keys next x rest s = (
-    λ c. rw (StandsNext-same listed keys next c.0 x s c.1) c.2,
-    λ more. (next, s, more),
-  )
+  -- where the next operation may come next, what is left of the list completes exactly if the list after it does
+  pub Completes-more : (order : List OpId) (i : ℕ) (d : OpId) → i < length order → (keys next : Keys) (A : Type 0)
+      → StandsNext program history (listed_in (take i order)) keys (get_or order i d) next
+      → A ↔ Completes program history (listed_in (take i order)) keys (drop i order)
+      → A ↔ Completes program history (listed_in (take (i + 1) order)) next (drop (i + 1) order)
+  Completes-more order i d within keys next A s before =
+      let listed = listed_in (take i order) in
+      let cut = drop_more order i d within in
+      let more = listed_more order i d within in (
+        λ a.
+            let c = rw cut at (before.0 a) in
+            rw (← more, StandsNext-same listed keys next c.0 (get_or order i d) s c.1) c.2,
+        λ c. before.1 (rw cut (next, s, rw more c)),
+      )
 
-  module _ (order : List OpId) (i : ℕ) (d : OpId) (within : i < length order) where
-    -- one more operation is listed
-    pub listed_more : with_name (listed_in (take i order)) (get_or order i d) ≡ listed_in (take (i + 1) order)
-    listed_more = fun_ext (λ a. sym (list_any_more (λ b. same_name b a) order i d within))
-
-    -- where the next operation may come next, what is left of the list completes exactly if the list after it does
-    pub Completes-more : (keys next : Keys) (A : Type 0)
-        → StandsNext program history (listed_in (take i order)) keys (get_or order i d) next
-        → A ↔ Completes program history (listed_in (take i order)) keys (drop i order)
-        → A ↔ Completes program history (listed_in (take (i + 1) order)) next (drop (i + 1) order)
-    Completes-more keys next A s before =
-        let first = Completes-first (listed_in (take i order)) keys next (get_or order i d) (drop (i + 1) order) s in
-        let cut = drop_more order i d within in (
-          λ a. rw (← listed_more) (first.0 (rw cut at (before.0 a))),
-          λ c. before.1 (rw cut (first.1 (rw listed_more c))),
-        )
-
-    -- where it doesn't, nothing that begins with it completes
-    pub Completes-stuck : (keys : Keys)
-        → ((next : Keys) → StandsNext program history (listed_in (take i order)) keys (get_or order i d) next → ⊥)
-        → Completes program history (listed_in (take i order)) keys (drop i order) → ⊥
-    Completes-stuck keys none c =
-        let c' = rw (drop_more order i d within) at c in none c'.0 c'.1
-
-  -- at the end of the list it is the last fact that is left
-  pub Completes-end : (order : List OpId) (i : ℕ) → length order ≤ i → (keys : Keys) (A : Type 0) → A
-      ↔ Completes program history (listed_in (take i order)) keys (drop i order)
-      → A ↔ EveryFinishedIsListed history (listed_in order)
-  Completes-end order i past keys A last =
-      rw (take_all i order past, drop_all i order past) at last
+  -- where it doesn't, nothing that begins with it completes
+  pub Completes-stuck : (order : List OpId) (i : ℕ) (d : OpId) → i < length order → (keys : Keys)
+      → ((next : Keys) → StandsNext program history (listed_in (take i order)) keys (get_or order i d) next → ⊥)
+      → Completes program history (listed_in (take i order)) keys (drop i order) → ⊥
+  Completes-stuck order i d within keys none c =
+      let first = rw (drop_more order i d within) at c in none first.0 first.1

@@ -1,13 +1,17 @@
 -- Names of operations, and the values beside them.
 use Rattle.std.proofs.Common.{◌≡◌, ◌≢◌, ℕ, zero, suc, ◌+◌, ◌*◌, ◌<◌, ◌||◌, ◌⊎◌, inl, inr, Bool, true, false}
-use Rattle.std.proofs.Common.{true≢false, List, [], ◌∷◌, ◌++◌, length, get_or, take, IsSome}
-use Rattle.std.proofs.Common.{refl, sym, ◌∙◌, eqb, eqb-true, eq-eqb, arith, subst}
+use Rattle.std.proofs.Common.{true≢false, List, [], ◌∷◌, ◌++◌, length, get_or, IsSome, All, Contains}
+use Rattle.std.proofs.Common.{refl, sym, eqb, eqb-true, eq-eqb, arith}
 use Rattle.std.specs.Prelude.{is_some}
 use Rattle.std.proofs.lemmas.Bool.{and_parts, or_cases, or_left, or_right, cases_Bool}
-use Rattle.std.proofs.lemmas.List.{take_more}
+use Rattle.std.specs.Cmp.{IsEquivalence}
+use Rattle.std.proofs.lemmas.Bool.Decides.{nat_tests}
+use Rattle.std.proofs.lemmas.List.Elements.{All-head, All-tail}
+use Rattle.std.proofs.lemmas.List.Folds.{list_any_at}
 use Rattle.sched_program.specs.declared.operation.OpId.{OpId}
 use Rattle.sched_program.specs.Name.{same_name, value_at}
-use Rattle.lin.specs.Completion.{Listed, with_name}
+use Rattle.lin.specs.Completion.{Listed, listed_in, with_name}
+use Rattle.lin.proofs.Lists.{Contains-found}
 
 pub same_name_self : (a : OpId) → same_name a a ≡ true
 same_name_self a = rw (eq-eqb a.thread a.thread refl, eq-eqb a.index a.index refl)
@@ -18,6 +22,21 @@ same_name-is a b h =
     let threads : a.thread ≡ b.thread = eqb-true a.thread b.thread pieces.0 in
     let indices : a.index ≡ b.index = eqb-true a.index b.index pieces.1 in
     λ j. record { thread = threads j; index = indices j }
+
+pub same_name_laws : IsEquivalence same_name
+same_name_laws = record {
+  refl = same_name_self;
+  symm = λ a b. grind (arith, nat_tests);
+  congr = λ a b c same. rw (same_name-is a b same) refl;
+}
+
+-- a list has the name of an operation exactly if it has the operation
+pub listed-Contains : (order : List OpId) (a : OpId) → Contains order a → listed_in order a ≡ true
+listed-Contains order a among =
+    list_any_at (λ b. same_name b a) order among.0 a among.1 (rw among.2 (same_name_self a))
+
+pub Contains-listed : (order : List OpId) (a : OpId) → listed_in order a ≡ true → Contains order a
+Contains-listed order a h = Contains-found (λ b. same_name b a) order a (λ b. same_name-is b a) h
 
 -- what is in a set with one more name was in it, or is that name
 module _ (listed : Listed) (x : OpId) where
@@ -65,15 +84,11 @@ module _ {V : Type 0} where
       let passes = every (get_or items i d).0 here in
       cc
 
-  -- what holds of each name with a value holds with one more
-  pub each_more : (Q : OpId → Type 0) (items : List (OpId × V)) (i : ℕ) (d : OpId × V) → i < length items
-      → Q (get_or items i d).0 → ((a : OpId) → IsSome (value_at (take i items) a) → Q a) → (a : OpId)
-      → IsSome (value_at (take (i + 1) items) a) → Q a
-  each_more Q items i d h here before a some =
-      let some' = rw (take_more items i d h) at some in
-      let x = get_or items i d in
-      let either = sym (is_some_push (take i items) x a) ∙ some' in
-      elim (or_cases (is_some (value_at (take i items) a)) (same_name x.0 a) either) [
-        | inl earlier ↦ before a earlier
-        | inr same ↦ subst Q (same_name-is _ _ same) here
-      ]
+  -- what holds of the name of each entry holds of each name with a value
+  pub each_named : (P : OpId → Type 0) (entries : List (OpId × V)) (a : OpId) → All (λ e. P e.0) entries
+      → IsSome (value_at entries a) → P a
+  each_named P [] a each some = absurd (true≢false (sym some))
+  each_named P (x ∷ xs) a each some = elim (cases_Bool (same_name x.0 a)) [
+    | inl same ↦ rw (← same_name-is x.0 a same) (All-head (λ e. P e.0) x xs each)
+    | inr other ↦ each_named P xs a (All-tail (λ e. P e.0) x xs each) (rw other at some)
+  ]

@@ -1,6 +1,6 @@
 -- What a search place by place knows of the operations that it tried.
 use Rattle.std.proofs.Common.{◌≡◌, ℕ, ◌+◌, ◌<◌, ◌≤◌, ◌||◌, inl, inr, Bool, true, false, true≢false, List, [], ◌∷◌}
-use Rattle.std.proofs.Common.{◌++◌, length, Option, Some, None, IsSome, sym, ◌∙◌, ap, arith}
+use Rattle.std.proofs.Common.{◌++◌, length, Option, Some, None, IsSome, All, sym, ◌∙◌, ap, arith}
 use Rattle.std.proofs.Common.{append_assoc}
 use Rattle.std.proofs.Math.Bool.{or-false}
 use Rattle.std.proofs.lemmas.Bool.{cases_Bool}
@@ -13,12 +13,10 @@ use Rattle.sched_program.specs.Program.{Program}
 use Rattle.sched_program.specs.History.{History}
 use Rattle.lin.specs.Keys.{Keys, keys_of}
 use Rattle.sched_program.specs.Name.{same_name, value_at}
-use Rattle.sched_program.specs.History.{IsBegun}
 use Rattle.lin.specs.Linearization.{IsLinearization}
 use Rattle.lin.specs.Completion.{Listed, listed_in, with_name, StandsNext, Completes, EveryFinishedIsListed, IsHopeless}
-use Rattle.lin.specs.Completion.{MustWait}
-use Rattle.lin.proofs.Names.{same_name-is, with_name-itself}
-use Rattle.lin.proofs.Completions.{completes_linearization_after, StandsNext-same, IsLinearization-completes}
+use Rattle.lin.proofs.Names.{each_named, same_name-is, with_name-itself}
+use Rattle.lin.proofs.Completions.{StandsNext-same, IsLinearization-completes}
 use Rattle.lin.proofs.Completions.{Completes-linearization}
 
 listed_push : (order : List OpId) (a : OpId) → listed_in (order ++ a ∷ []) ≡ with_name (listed_in order) a
@@ -102,23 +100,19 @@ module _ {program : Program} {history : History} {order before pushed : List OpI
       let e = StandsNext-same program history (listed_in order) keys c.0 next a c.1 stands in
       none rest (rw (listed_pushed, ← e) c.2)
 
-module _ (program : Program) (history : History) where
-  -- no list with an operation in front completes if another must come first
-  pub not_yet : (listed : Listed) (keys : Keys) (a : OpId) → MustWait history listed a → (rest : List OpId)
-      → Completes program history listed keys (a ∷ rest) → ⊥
-  not_yet listed keys a w rest c =
-      let l = completes_linearization_after program history (with_name listed a) c.0 rest c.2 in
-      elim (l.complete w.0 w.1) [
-        | inl earlier ↦ true≢false (sym earlier ∙ w.2.0)
-        | inr later ↦ l.after w.0 a later (with_name-itself listed a) w.2.1
-      ]
+-- no list that begins with this operation completes
+abbrev pub CannotComeNext : Program → History → Listed → Keys → OpId → Type 0
+CannotComeNext program history listed keys a =
+    (rest : List OpId) → Completes program history listed keys (a ∷ rest) → ⊥
 
+module _ (program : Program) (history : History) where
   -- where each begun operation was tried, nothing completes
   pub nothing_left : (listed : Listed) (keys : Keys) → (EveryFinishedIsListed history listed → ⊥)
-      → ((a : OpId) → IsBegun history a → (rest : List OpId) → Completes program history listed keys (a ∷ rest) → ⊥)
+      → All (λ e. CannotComeNext program history listed keys e.0) history.begun
       → IsHopeless program history listed keys
   nothing_left listed keys missing tried [] every = missing every
-  nothing_left listed keys missing tried (a ∷ rest) c = tried a c.1.begun rest c
+  nothing_left listed keys missing tried (a ∷ rest) c =
+      each_named (CannotComeNext program history listed keys) history.begun a tried c.1.begun rest c
 
   -- what completes the empty list is a linearization,
   pub found_linearization : (empty order : List OpId) (keys : Keys) → empty ≡ [] → keys ≡ keys_of program.initial

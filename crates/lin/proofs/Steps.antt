@@ -1,6 +1,6 @@
 -- Whether an operation may come next, from sets of operations.
 use Rattle.std.proofs.Common.{◌≡◌, ◌&&◌, ◌||◌, Bool, true, false, true≢false, List, [], ◌∷◌, IsSome, MatchBool, ◌↔◌}
-use Rattle.std.proofs.Common.{inl, inr, refl, sym, ◌∙◌, ap}
+use Rattle.std.proofs.Common.{arith, inl, inr, refl, sym, ◌∙◌, ap}
 use Rattle.std.proofs.lemmas.Bool.{or_cases, or_parts, or_left, or_right, and_parts, cases_Bool, true_from_ne_false}
 use Rattle.sched_program.specs.declared.operation.OpId.{OpId}
 use Rattle.sched_program.specs.Program.{Program}
@@ -11,50 +11,8 @@ use Rattle.lin.specs.Completion.{Listed, listed_in, with_name, EveryFinishedIsLi
 use Rattle.lin.specs.Timeline.{HasPlace, finished_in}
 use Rattle.lin.specs.Progress.{AreBarred}
 use Rattle.lin.proofs.Names.{same_name-is, with_name-cases, with_name-earlier, with_name-itself}
-use Rattle.lin.proofs.Search.{not_yet}
+use Rattle.lin.proofs.Completions.{never_late}
 use Rattle.lin.proofs.Timelines.{finished_placed}
-
-module _ (history : History) (listed barred before : Listed) (name : OpId) (has : HasPlace name)
-    (barred_are : AreBarred history listed barred)
-    (before_are : (a : OpId) → HasPlace a → (before a ≡ true) ↔ EndedBefore history a name) where
-  -- an operation in none of the sets is new and in time
-  pub in_time : ((listed name || barred name) || before name) ≡ false
-      → (listed name ≡ false) × ((b : OpId) → with_name listed name b ≡ true → EndedBefore history name b → ⊥)
-  in_time none =
-      let sets = or_parts (listed name || barred name) (before name) none in
-      let pieces = or_parts (listed name) (barred name) sets.0 in (
-        pieces.0,
-        λ b among ended. elim (with_name-cases listed name b among) [
-          | inl earlier ↦ true≢false (sym ((barred_are name has).1 (b, earlier, ended)) ∙ pieces.1)
-          | inr same ↦ true≢false (sym ((before_are name has).1 (rw (← same) at ended)) ∙ sets.1)
-        ],
-      )
-
-  module _ (program : Program) (keys : Keys) (rest : List OpId)
-      (c : Completes program history listed keys (name ∷ rest)) where
-    -- one that may come next is in none of the sets,
-    pub in_no_set : ((listed name || barred name) || before name) ≡ true → ⊥
-    in_no_set some = elim (or_cases (listed name || barred name) (before name) some) [
-      | inl first ↦ elim (or_cases (listed name) (barred name) first) [
-        | inl earlier ↦ true≢false (sym earlier ∙ c.1.new)
-        | inr late ↦ let ended = (barred_are name has).0 late in
-            c.1.in_time ended.0 (with_name-earlier listed name ended.0 ended.1) ended.2
-      ]
-      | inr itself ↦ c.1.in_time name (with_name-itself listed name) ((before_are name has).0 itself)
-    ]
-
-    -- and each finished operation that ended before it began is listed
-    pub none_missing : IsHistory history → (finished : Listed) → finished ≡ finished_in history.finished → (a : OpId)
-        → (before a && finished a) ≡ true → listed a ≡ true
-    none_missing events finished finished_are a among =
-        let pieces = and_parts (before a) (finished a) among in
-        let some : IsSome (reply history a) = sym (ap (λ f. f a) finished_are) ∙ pieces.1 in
-        let ended : EndedBefore history a name = (before_are a (finished_placed history events a some)).0 pieces.0 in
-        true_from_ne_false (listed a) (λ new. elim (cases_Bool (same_name name a)) [
-          | inl same ↦
-              c.1.in_time name (with_name-itself listed name) (rw (← same_name-is name a same) at ended)
-          | inr other ↦ not_yet program history listed keys name (a, some, (rw (new, other), ended)) rest c
-        ])
 
 -- with one more operation listed, those that ended before it began are barred too
 pub barred_more : (history : History) (listed barred before : Listed) (name : OpId) → AreBarred history listed barred
@@ -72,6 +30,45 @@ barred_more history listed barred before name barred_are before_are a has = (
   ],
 )
 
+module _ (history : History) (listed barred before : Listed) (name : OpId) (has : HasPlace name)
+    (barred_are : AreBarred history listed barred)
+    (before_are : (a : OpId) → HasPlace a → (before a ≡ true) ↔ EndedBefore history a name) where
+  barred_now : AreBarred history (with_name listed name) (λ a. barred a || before a)
+  barred_now = barred_more history listed barred before name barred_are before_are
+
+  -- an operation in none of the sets is new and in time
+  pub in_time : ((listed name || barred name) || before name) ≡ false
+      → (listed name ≡ false) × ((b : OpId) → with_name listed name b ≡ true → EndedBefore history name b → ⊥)
+  in_time none =
+      let sets = or_parts (listed name || barred name) (before name) none in
+      let pieces = or_parts (listed name) (barred name) sets.0 in (
+        pieces.0,
+        λ b among ended. true≢false (sym ((barred_now name has).1 (b, among, ended)) ∙ rw (pieces.1, sets.1) refl),
+      )
+
+  module _ (program : Program) (keys : Keys) (rest : List OpId)
+      (c : Completes program history listed keys (name ∷ rest)) where
+    -- one that may come next is in none of the sets,
+    pub in_no_set : ((listed name || barred name) || before name) ≡ true → ⊥
+    in_no_set some =
+        let not_late : (barred name || before name) ≡ true → ⊥ =
+        λ later. let ended = (barred_now name has).0 later in c.1.in_time ended.0 ended.1 ended.2 in
+        grind (arith, c.1.new, not_late, some, cases_Bool (barred name), cases_Bool (before name))
+
+    -- and each finished operation that ended before it began is listed
+    pub none_missing : IsHistory history → (finished : Listed) → finished ≡ finished_in history.finished → (a : OpId)
+        → (before a && finished a) ≡ true → listed a ≡ true
+    none_missing events finished finished_are a among =
+        let pieces = and_parts (before a) (finished a) among in
+        let some : IsSome (reply history a) = sym (ap (λ f. f a) finished_are) ∙ pieces.1 in
+        let ended : EndedBefore history a name = (before_are a (finished_placed history events a some)).0 pieces.0 in
+        true_from_ne_false (listed a) (λ new. elim (cases_Bool (same_name name a)) [
+          | inl same ↦
+              c.1.in_time name (with_name-itself listed name) (rw (← same_name-is name a same) at ended)
+          | inr other ↦ never_late program history (with_name listed name) c.0 rest a name c.2 some
+              (rw (new, other) refl) (with_name-itself listed name) ended
+        ])
+
 -- with nothing listed nothing is barred
 pub barred_none : (history : History) → AreBarred history (listed_in []) (listed_in [])
 barred_none history a has = (λ h. absurd (true≢false (sym h)), λ ended. absurd (true≢false (sym ended.1)))
@@ -82,7 +79,8 @@ by_test true f g = f refl
 by_test false f g = g refl
 
 -- every finished operation is listed exactly if the one set is within the other
-pub every_listed : (history : History) (finished listed : Listed) → finished ≡ finished_in history.finished
-    → ((a : OpId) → finished a ≡ true → listed a ≡ true) ↔ EveryFinishedIsListed history listed
-every_listed history finished listed are =
+pub every_listed : (history : History) (finished listed stated : Listed) → finished ≡ finished_in history.finished
+    → listed ≡ stated
+    → ((a : OpId) → finished a ≡ true → listed a ≡ true) ↔ EveryFinishedIsListed history stated
+every_listed history finished listed stated are same = rw (← same)
     (λ within a some. within a (ap (λ f. f a) are ∙ some), λ every a among. every a (sym (ap (λ f. f a) are) ∙ among))

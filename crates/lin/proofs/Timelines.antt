@@ -1,7 +1,7 @@
 -- What is in the table of a history.
-use Rattle.std.proofs.Common.{◌≡◌, ◌≢◌, ℕ, suc, ◌+◌, ◌-◌, ◌<◌, ◌≤◌, ◌&&◌, ◌||◌, Bool, true, eqb, ltb}
-use Rattle.std.proofs.Common.{List, [], ◌∷◌, length, get_or, set, take, drop}
-use Rattle.std.proofs.Common.{Option, Some, None, IsSome, IsSomeAnd, ◌↔◌, IfSome, refl, sym, ◌∙◌, ap, arith}
+use Rattle.std.proofs.Common.{◌≡◌, ◌≢◌, ℕ, ◌+◌, ◌-◌, ◌<◌, ◌≤◌, ◌&&◌, ◌||◌, Bool, true, eqb, ltb}
+use Rattle.std.proofs.Common.{List, [], length, get_or, set, take, drop}
+use Rattle.std.proofs.Common.{Option, Some, None, IsSome, IsSomeAnd, ◌↔◌, IfSome, sym, ◌∙◌, ap, arith}
 use Rattle.std.proofs.Common.{true≢false, inl, inr}
 use Rattle.std.specs.Prelude.{slice_index}
 use Rattle.std.proofs.lemmas.List.{get_or_default, get_or_past, get_or-set_other, drop_more, take_more}
@@ -16,7 +16,7 @@ use Rattle.lin.specs.Timeline.{HasPlace, place_of, counted, AreSetsBefore, finis
 use Rattle.sched_program.specs.History.{History, IsHistory, IsBegun, reply, EndedBefore}
 use Rattle.lin.specs.OpSet.{operations_in}
 use Rattle.lin.specs.declared.op_set.OpSet.{OpSet}
-use Rattle.lin.proofs.Names.{is_some_push, places_differ, same_name-is}
+use Rattle.lin.proofs.Names.{each_named, is_some_push, places_differ, same_name-is}
 
 -- the operations of the first threads that a note counts
 abbrev pub counted_before : List ℕ → ℕ → Listed
@@ -44,19 +44,6 @@ module _ {V T : Type 0} (P : Option V → T → Type 0) where
   abbrev pub HoldsAtPlaces : List (OpId × V) → List T → Type 0
   HoldsAtPlaces entries table = (a : OpId) (d : T) → HasPlace a → P (value_at entries a) (get_or table (place_of a) d)
 
-  -- holds with one more entry in front, once the table has its value
-  pub holds_with : (x : OpId × V) (rest : List (OpId × V)) (table : List T) (place : ℕ) (t : T) → HasPlace x.0
-      → place ≡ place_of x.0 → place < length table → P (Some x.1) t
-      → HoldsAtPlaces rest table → HoldsAtPlaces (x ∷ rest) (set table place t)
-  holds_with x rest table place t has e within here before a d has_a = elim (cases_Bool (same_name x.0 a)) [
-    | inl same ↦
-        let at : place_of a ≡ place = rw (← same_name-is x.0 a same) (sym e) in
-        rw (same, get_or-set_at table place (place_of a) t d at within) here
-    | inr differs ↦
-        let other : place_of a ≢ place = λ at. places_differ x.0 a has.1 has_a.1 differs (at ∙ e) in
-        rw (differs, get_or-set_other table place (place_of a) t d other) (before a d has_a)
-  ]
-
   -- holds with the entry before those that are left of a list, once the table has its value
   pub holds_before : (entries : List (OpId × V)) (i : ℕ) (x d : OpId × V) (table : List T) (place : ℕ) (t : T) → 0 < i
       → i ≤ length entries → x ≡ get_or entries (i - 1) d
@@ -64,30 +51,35 @@ module _ {V T : Type 0} (P : Option V → T → Type 0) where
       → HoldsAtPlaces (drop i entries) table → HoldsAtPlaces (drop (i - 1) entries) (set table place t)
   holds_before entries i x d table place t some within is has e in_table here before =
       let next : i - 1 + 1 ≡ i = omega arith in
-      rw (drop_more entries (i - 1) d (omega arith), ← is, next)
-      (holds_with x (drop i entries) table place t has e in_table here before)
+      rw (drop_more entries (i - 1) d (omega arith), ← is, next) (λ a b has_a. elim (cases_Bool (same_name x.0 a)) [
+        | inl same ↦
+            let at : place_of a ≡ place = rw (← same_name-is x.0 a same) (sym e) in
+            rw (same, get_or-set_at table place (place_of a) t b at in_table) here
+        | inr differs ↦
+            let other : place_of a ≢ place = λ at. places_differ x.0 a has.1 has_a.1 differs (at ∙ e) in
+            rw (differs, get_or-set_other table place (place_of a) t b other) (before a b has_a)
+      ])
 
--- the operations of a history have places
+-- the operations of a history have places: those that began, and so those that are finished
 module _ (history : History) (events : IsHistory history) where
+  begun_placed : (a : OpId) → IsBegun history a → HasPlace a
+  begun_placed a begun =
+      let small = each_named (λ b. (b.thread < 4) × (b.index < 6)) history.begun a events.names begun in
+      (small.0, omega arith)
+
+  pub finished_placed : (a : OpId) → IsSome (reply history a) → HasPlace a
+  finished_placed a some =
+      begun_placed a (each_named (IsBegun history) history.finished a events.finished_are_begun some)
+
   pub begun_has_place : (entries : List (OpId × List ℕ)) (i : ℕ) (d : OpId × List ℕ) → entries ≡ history.begun
       → i < length entries → HasPlace (get_or entries i d).0
   begun_has_place entries i d e within =
       let small = events.names i d (rw e at within) in rw e (small.0, omega (arith, small.1))
 
-  -- the finished operations have places, since they began
-  of_each : {V : Type 0} (P : OpId → Type 0) (entries : List (OpId × V)) (a : OpId)
-      → ((i : ℕ) (d : OpId × V) → i < length entries → P (get_or entries i d).0) → IsSome (value_at entries a) → P a
-  of_each P [] a each some = absurd (true≢false (sym some))
-  of_each P (x ∷ xs) a each some = elim (cases_Bool (same_name x.0 a)) [
-    | inl same ↦ rw (← same_name-is x.0 a same) (each 0 x (omega arith))
-    | inr other ↦ of_each P xs a (λ i d within. each (suc i) d (omega arith)) (rw other at some)
-  ]
-
   pub finished_has_place : (entries : List (OpId × Bool)) (i : ℕ) (d : OpId × Bool) → entries ≡ history.finished
       → i < length entries → HasPlace (get_or entries i d).0
   finished_has_place entries i d e within =
-      rw e (of_each HasPlace history.begun (get_or history.finished i d).0
-      (λ k d below. begun_has_place history.begun k d refl below) (events.finished_are_begun i d (rw e at within)))
+      rw e (begun_placed (get_or history.finished i d).0 (events.finished_are_begun i d (rw e at within)))
 
 -- one more entry is among the finished ones
 pub finished_more : (items : List (OpId × Bool)) (i : ℕ) (d : OpId × Bool) → i < length items
@@ -111,9 +103,3 @@ pub set_says : (history : History) (sets : List OpSet) → AreSetsBefore history
 set_says history sets are name begun has k d e =
     says (value_at history.begun name) (get_or sets k d) begun
     (rw e (are name d has))
-
--- a finished operation has a place
-pub finished_placed : (history : History) → IsHistory history → (a : OpId) → IsSome (reply history a) → HasPlace a
-finished_placed history events a some =
-    of_each history events HasPlace history.finished a
-    (λ i d within. finished_has_place history events history.finished i d refl within) some

@@ -17,7 +17,7 @@ use Rattle.sched_program.specs.Text.{IsListOf, HasMember, IsKey, HasKey, HasWord
 use Rattle.sched_program.specs.Text.{HasTree, HasVersion, op_of, word_of}
 use Rattle.sched_program.specs.Faults.{item_count, IsListOfCount, IsListWithin, IsShortListOfKeys, IsListOfDistinctKeys}
 use Rattle.sched_program.specs.Faults.{HasOpCounts, HasWords, HasKeys, AreOpCounts, Passes, earlier}
-use Rattle.sched_program.proofs.Values.{Each-All, of_map_All, same_items, of_member, list_counted, same_count}
+use Rattle.sched_program.proofs.Values.{IsUnique, Each-All, of_map_All, same_items, of_member, list_counted}
 use Rattle.sched_program.proofs.Values.{same_list, list_map, list_both}
 
 -- a list of keys is one of few keys only if its length is
@@ -26,11 +26,11 @@ keys_bounded_within value bounded =
     (length bounded.0, list_counted IsKey value bounded.0 bounded.1, omega arith, bounded.2)
 
 -- a value is one key at most
-pub same_key : (value : Data) (a b : ℕ) → IsKey value a → IsKey value b → a ≡ b
+pub same_key : IsUnique IsKey
 same_key value a b is also = let e : number (unsigned a) ≡ number (unsigned b) = sym is.0 ∙ also.0 in cc
 
 -- a list has one number of items
-pub same_counted : (value : Data) (a b : ℕ) → IsListOfCount value a → IsListOfCount value b → a ≡ b
+pub same_counted : IsUnique IsListOfCount
 same_counted value a b is also = sym is.2 ∙ ap item_count (same_items value is.0 also.0 is.1 also.1) ∙ also.2
 
 -- the lengths of threads are the counts of their list
@@ -43,8 +43,7 @@ thread_counts value threads list counts =
 pub within : {A : Type 0} (StandsFor : Data → A → Type 0) (value : Data) (xs : List A) (least most : ℕ)
     → IsListOf StandsFor value xs → IsListWithin least most value → (least ≤ length xs) × (length xs ≤ most)
 within StandsFor value xs least most list bounded =
-    let same : length xs ≡ bounded.0 = same_count StandsFor value xs bounded.0 list bounded.1 in
-    (omega (arith, same, bounded.2, bounded.3), omega (arith, same, bounded.2, bounded.3))
+    rw (same_counted value _ _ (list_counted StandsFor value xs list) bounded.1) (bounded.2, bounded.3)
 
 -- a word and a key are an operation
 pub op_joined : (value : Data) (word : OpWord) (key : ℕ) → HasWord value word → HasKey value key

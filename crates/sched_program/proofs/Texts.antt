@@ -1,5 +1,5 @@
 -- A value is the text of one program at most, and a text has no fault.
-use Rattle.std.proofs.Common.{◌≡◌, ◌≢◌, ℕ, ◌≤◌, List, length, get_or, map, arith, subst, refl, sym, ap, ◌∙◌, Option}
+use Rattle.std.proofs.Common.{◌≡◌, ◌≢◌, ℕ, ◌≤◌, List, length, get_or, map, arith, refl, sym, ap, ◌∙◌}
 use Rattle.std.proofs.Common.{Some, None, Result, Ok, Err, IfOk, IfErr, codes, sum}
 use Rattle.std.proofs.lemmas.Option.{same_Some}
 use Rattle.std.proofs.lemmas.List.Sums.{sum-map}
@@ -12,7 +12,6 @@ use Rattle.sched_program.specs.declared.operation.Op.TheVariants as op
 use Rattle.sched_program.specs.declared.operation.Tree.{Tree}
 use Rattle.sched_program.specs.declared.operation.Tree.TheVariants.{Atomic, Ellen, EllenNoMark, EllenNoIflag, Nm}
 use Rattle.sched_program.specs.declared.operation.Tree.TheVariants.{NmNoTag}
-use Rattle.sched_program.specs.declared.operation.Turn.{Turn}
 use Rattle.sched_program.specs.declared.version.Version.{Version}
 use Rattle.sched_program.specs.declared.version.Version.TheVariants.{First, Second}
 use Rattle.sched_program.specs.declared.reader.OpWord.{OpWord}
@@ -21,10 +20,10 @@ use Rattle.sched_program.specs.declared.fault.ProgramFault.{ProgramFault}
 use Rattle.sched_program.specs.declared.fault.ProgramFault.TheVariants as fault
 use Rattle.sched_program.specs.Program.{Program, key_of}
 use Rattle.sched_program.specs.Text.{IsListOf, IsKey, IsOp, IsTurn, HasThreads, HasTurn, HasTurns, HasVersion}
-use Rattle.sched_program.specs.Text.{version_number, op_of, word_of, word_text, tree_name, IsTextOf, IsJsonOf}
+use Rattle.sched_program.specs.Text.{version_number, op_of, word_of, word_text, tree_name, IsTextOf}
 use Rattle.sched_program.specs.Text.{IsJsonTextOf}
-use Rattle.sched_program.specs.Faults.{AreOpCounts, Passes, Stands, IsFirstFault}
-use Rattle.sched_program.proofs.Values.{same_list, same_member}
+use Rattle.sched_program.specs.Faults.{Passes, IsFirstFault}
+use Rattle.sched_program.proofs.Values.{IsUnique, same_list, same_member}
 use Rattle.sched_program.proofs.Members.{same_key, threads_pass}
 
 -- a name has one text
@@ -52,14 +51,14 @@ op_pieces : (op : Op) → op_of (word_of op) (key_of op) ≡ op
 op_pieces (op.Insert key) = refl
 op_pieces o = refl
 
-same_op : (value : Data) (a b : Op) → IsOp value a → IsOp value b → a ≡ b
+same_op : IsUnique IsOp
 same_op value a b is also =
     let word : word_of a ≡ word_of b =
     same_word_text (word_of a) (word_of b) (same_text (codes "op") value _ _ is.word also.word) in
     let key : key_of a ≡ key_of b = same_member IsKey (codes "key") same_key value _ _ is.key also.key in
     cc (op_pieces a, op_pieces b)
 
-pub same_threads : (value : Data) (a b : List (List Op)) → HasThreads value a → HasThreads value b → a ≡ b
+pub same_threads : IsUnique HasThreads
 same_threads =
     same_member (IsListOf (IsListOf IsOp)) (codes "threads") (same_list (IsListOf IsOp) (same_list IsOp same_op))
 
@@ -68,14 +67,13 @@ same_number First First e = refl
 same_number Second Second e = refl
 same_number a b e = absurd (omega (arith, e))
 
-pub same_version : (value : Data) (a b : Version) → HasVersion value a → HasVersion value b → a ≡ b
+pub same_version : IsUnique HasVersion
 same_version value a b is also =
     let e : number (unsigned (version_number a)) ≡ number (unsigned (version_number b)) =
     same_Some _ _ (sym is ∙ also) in
     same_number a b (cc)
 
--- a value is one turn at most
-same_as_turn : (value : Data) (a b : Turn) → IsTurn value a → IsTurn value b → a ≡ b
+same_as_turn : IsUnique IsTurn
 same_as_turn value a b is also =
     let e : array (item (number (unsigned a.thread)) (item (number (unsigned a.count)) no_items))
     ≡ array (item (number (unsigned b.thread)) (item (number (unsigned b.count)) no_items)) = sym is ∙ also in
@@ -83,8 +81,7 @@ same_as_turn value a b is also =
     let count : a.count ≡ b.count = cc in
     λ j. record { thread = thread j; count = count j }
 
-same_wait : (version : Version) (value : Data) (a b : Option Turn) → HasTurn version value a → HasTurn version value b
-    → a ≡ b
+same_wait : (version : Version) → IsUnique (HasTurn version)
 same_wait First value a b is also = is ∙ sym also
 same_wait Second value None None is also = refl
 same_wait Second value None (Some b) is also = absurd (let e : None ≡ Some also.0 = sym is ∙ also.1 in cc)
@@ -92,14 +89,13 @@ same_wait Second value (Some a) None is also = absurd (let e : None ≡ Some is.
 same_wait Second value (Some a) (Some b) is also =
     ap Some (same_member IsTurn (codes "after") same_as_turn value a b is also)
 
-pub same_turns : (version : Version) (value : Data) (a b : List (List (Option Turn))) → HasTurns version value a
-    → HasTurns version value b → a ≡ b
+pub same_turns : (version : Version) → IsUnique (HasTurns version)
 same_turns version =
     same_member (IsListOf (IsListOf (HasTurn version))) (codes "threads")
     (same_list (IsListOf (HasTurn version)) (same_list (HasTurn version) (same_wait version)))
 
 -- a value is the text of one program at most
-pub same_program : (value : Data) (p q : Program) → IsTextOf value p → IsTextOf value q → p ≡ q
+pub same_program : IsUnique IsTextOf
 same_program value p q is also =
     let tree = same_tree_name p.tree q.tree (same_text (codes "tree") value _ _ is.tree also.tree) in
     let initial =
@@ -123,7 +119,7 @@ all_threads_pass value program is =
     let each = All-map (λ count. (1 ≤ count) × (count ≤ 6)) length program.threads is.limits.op_counts in
     let total : sum (map length program.threads) ≤ 12 = rw (sum-map length program.threads) is.limits.total in
     threads_pass value program.threads is.threads is.limits.some_thread is.limits.thread_count
-    (let counts : AreOpCounts (map length program.threads) = record { each = each; total = total } in counts)
+    (record { each = each; total = total })
 
 -- a text passes each test
 passes_all : (value : Data) (program : Program) → IsTextOf value program → (fault : ProgramFault) → Passes value fault
@@ -143,24 +139,15 @@ passes_all value program is fault.After =
     (is.version, program.threads, program.turns, is.has_version, is.threads, is.turns, is.limits.turns)
 passes_all value program is fault.OutOfMemory = tt
 
--- what passes a test has not its fault
-not_both : (value : Data) (stated : ProgramFault) → Passes value stated → Stands value stated → stated
-    ≡ fault.OutOfMemory
-not_both value fault.OutOfMemory passes stands = refl
-not_both value stated passes stands = absurd (stands passes)
-
 -- a text has no first fault but a refusal of memory
-pub no_fault : (value : Data) (program : Program) (stated : ProgramFault) → IsTextOf value program
+no_fault : (value : Data) (program : Program) (stated : ProgramFault) → IsTextOf value program
     → IsFirstFault value stated → stated ≡ fault.OutOfMemory
-no_fault value program stated is first = not_both value stated (passes_all value program is stated) first.stands
-
--- the bytes have one value
-pub same_value : (bytes : List ℕ) (value other : Data) → read bytes ≡ Some value → IsJsonOf bytes other → other ≡ value
-same_value bytes value other is json = same_Some _ _ (sym json.reads ∙ is)
+no_fault value program fault.OutOfMemory is first = refl
+no_fault value program stated is first = absurd (first.stands (passes_all value program is stated))
 
 module _ (bytes : List ℕ) (value : Data) (is : read bytes ≡ Some value) where
   of_value : (program : Program) → IsJsonTextOf bytes program → IsTextOf value program
-  of_value program text = subst (λ v. IsTextOf v program) (same_value bytes value text.0 is text.1) text.2
+  of_value program text = rw (same_Some _ _ (sym text.1.reads ∙ is)) at text.2
 
   -- a program of the value is the only one of the bytes
   pub only_program : (answer : Result Program ProgramFault) → IfOk answer (IsTextOf value)

@@ -2,7 +2,7 @@
 use Rattle.std.proofs.Common.{◌≡◌, ℕ, zero, suc, ◌+◌, ◌<◌, List, [], ◌∷◌, ◌++◌, length, map, get_or, take, arith, subst}
 use Rattle.std.proofs.Common.{sym, refl, ap, ◌∙◌, Some, All}
 use Rattle.std.proofs.lemmas.Option.{same_Some}
-use Rattle.std.proofs.lemmas.List.{take_more}
+use Rattle.std.proofs.lemmas.List.{take_more, get_or-map, length-map}
 use Rattle.std.proofs.lemmas.List.Elements.{All-cons, All-nil}
 use Rattle.serde_json.specs.Find.{get, as_array}
 use Rattle.serde_json.specs.Data.{Data, array, Items, no_items, item}
@@ -18,9 +18,12 @@ items_view_count (value ∷ values) = ap suc (items_view_count values)
 
 -- what holds of each image
 pub of_map_All : {A : Type 0} (P : ℕ → Type 0) (f : A → ℕ) (xs : List A) → All P (map f xs) → All (λ x. P (f x)) xs
-of_map_All P f [] all = λ k d below. absurd (omega arith)
-of_map_All P f (x ∷ xs) all =
-    All-cons (λ y. P (f y)) x xs (all 0 0 (omega arith)) (of_map_All P f xs (λ k d below. all (suc k) d (omega arith)))
+of_map_All P f xs all k d below =
+    rw (get_or-map f xs k d (f d) below) at (all k (f d) (omega (arith, length-map xs f)))
+
+-- a value stands for one thing at most
+abbrev pub IsUnique : {A : Type 0} → (Data → A → Type 0) → Type 0
+IsUnique {A} StandsFor = (value : Data) (x y : A) → StandsFor value x → StandsFor value y → x ≡ y
 
 -- a value is a list in one way
 pub same_items : (value : Data) (values others : Items) → value ≡ array values → value ≡ array others → values ≡ others
@@ -46,21 +49,14 @@ module _ {A : Type 0} (StandsFor : Data → A → Type 0) where
   Each-more values xs ys i value x below is pushed all here =
       rw (pushed, take_more values i value below, ← is) (Each-push (take i values) xs value x all here)
 
-  -- each value stands for something
-  Each-at : (values : List Value) (xs : List A) (i : ℕ) (d : Value) → i < length values
-      → Each StandsFor (items_view values) xs → (x : A) × StandsFor (view (get_or values i d)) x
-  Each-at [] xs i d below all = absurd (omega arith)
-  Each-at (value ∷ values) [] i d below all = absurd all
-  Each-at (value ∷ values) (x ∷ xs) zero d below all = (x, all.0)
-  Each-at (value ∷ values) (x ∷ xs) (suc i) d below all = Each-at values xs i d (omega arith) all.1
-
   -- a value that stands for nothing
   pub Each-none : (values : List Value) (xs : List A) (i : ℕ) (value : Value) → i < length values
       → value ≡ get_or values i value → ((x : A) → StandsFor (view value) x → ⊥) → Each StandsFor (items_view values) xs
       → ⊥
-  Each-none values xs i value below is none all =
-      let found = Each-at values xs i value below all in
-      none found.0 (subst (λ v. StandsFor (view v) found.0) (sym is) found.1)
+  Each-none [] xs i value below is none all = omega arith
+  Each-none (v ∷ vs) [] i value below is none all = all
+  Each-none (v ∷ vs) (x ∷ xs) zero value below is none all = none x (rw (← is) at all.0)
+  Each-none (v ∷ vs) (x ∷ xs) (suc i) value below is none all = Each-none vs xs i value (omega arith) is none all.1
 
   Each-count : (values : Items) (xs : List A) → Each StandsFor values xs → item_count values ≡ length xs
   Each-count no_items [] all = refl
@@ -71,11 +67,6 @@ module _ {A : Type 0} (StandsFor : Data → A → Type 0) where
   pub list_counted : (value : Data) (xs : List A) → IsListOf StandsFor value xs → IsListOfCount value (length xs)
   list_counted value xs list = (list.0, list.1, Each-count list.0 xs list.2)
 
-  pub same_count : (value : Data) (xs : List A) (count : ℕ) → IsListOf StandsFor value xs → IsListOfCount value count
-      → length xs ≡ count
-  same_count value xs count list counted =
-      sym (Each-count list.0 xs list.2) ∙ ap item_count (same_items value list.0 counted.0 list.1 counted.1) ∙ counted.2
-
   -- what holds of each thing that a value stands for holds of all
   pub Each-All : (P : A → Type 0) → ((value : Data) (x : A) → StandsFor value x → P x) → (values : Items) (xs : List A)
       → Each StandsFor values xs → All P xs
@@ -84,8 +75,8 @@ module _ {A : Type 0} (StandsFor : Data → A → Type 0) where
   Each-All P f (item v vs) (x ∷ xs) h = All-cons P x xs (f v x h.0) (Each-All P f vs xs h.1)
 
   -- where a value stands for one thing at most, so does a list
-  Each-same : ((value : Data) (x y : A) → StandsFor value x → StandsFor value y → x ≡ y)
-      → (values : Items) (xs ys : List A) → Each StandsFor values xs → Each StandsFor values ys → xs ≡ ys
+  Each-same : IsUnique StandsFor → (values : Items) (xs ys : List A) → Each StandsFor values xs
+      → Each StandsFor values ys → xs ≡ ys
   Each-same one no_items [] [] all also = refl
   Each-same one no_items [] (y ∷ ys) all also = absurd also
   Each-same one (item value values) (x ∷ xs) [] all also = absurd also
@@ -93,14 +84,12 @@ module _ {A : Type 0} (StandsFor : Data → A → Type 0) where
       rw (one value x y all.0 also.0, Each-same one values xs ys all.1 also.1)
   Each-same one values xs ys all also = absurd all
 
-  pub same_list : ((value : Data) (x y : A) → StandsFor value x → StandsFor value y → x ≡ y)
-      → (value : Data) (xs ys : List A) → IsListOf StandsFor value xs → IsListOf StandsFor value ys → xs ≡ ys
+  pub same_list : IsUnique StandsFor → IsUnique (IsListOf StandsFor)
   same_list one value xs ys list also =
       Each-same one list.0 xs ys list.2 (rw (same_items value also.0 list.0 also.1 list.1) at also.2)
 
-  pub same_member : (name : List ℕ) → ((value : Data) (x y : A) → StandsFor value x → StandsFor value y → x ≡ y)
-      → (value : Data) (x y : A) → HasMember name (λ v. StandsFor v x) value → HasMember name (λ v. StandsFor v y) value
-      → x ≡ y
+  pub same_member : (name : List ℕ) → IsUnique StandsFor
+      → IsUnique (λ value x. HasMember name (λ v. StandsFor v x) value)
   same_member name one value x y has also =
       one has.0 x y has.2 (of_member (λ v. StandsFor v y) name value has.0 (sym has.1) also)
 

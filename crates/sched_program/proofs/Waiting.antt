@@ -1,8 +1,9 @@
 -- What the operations of a text wait for, and where that is not within the limits.
-use Rattle.std.proofs.Common.{◌≡◌, ℕ, zero, suc, ◌<◌, ◌≤◌, List, [], ◌∷◌, length, get_or, slice_get, arith, sym}
-use Rattle.std.proofs.Common.{ap, ◌∙◌, Option, Some, None, IfSome, IfNone, Result, Ok, IfOk, All, codes}
+use Rattle.std.proofs.Common.{◌≡◌, ℕ, ◌<◌, ◌≤◌, List, [], length, get_or, slice_get, arith, sym}
+use Rattle.std.proofs.Common.{ap, ◌∙◌, inl, inr, Option, Some, None, IfSome, IfNone, Result, Ok, Err, IfOk, All, codes}
 use Rattle.std.proofs.lemmas.Option.{same_Some, slice_get_within, get_or_from_slice_get}
-use Rattle.std.proofs.lemmas.List.{get_or_default}
+use Rattle.std.proofs.lemmas.Bool.{cases_lt}
+use Rattle.std.proofs.lemmas.List.{get_or_default, get_or_past}
 use Rattle.serde_json.specs.Find.{get, as_array}
 use Rattle.serde_json.specs.Data.{Data}
 use Rattle.serde_json.specs.View.{items_view}
@@ -37,49 +38,37 @@ module _ (value : Data) (version : Version) (threads : List (List Op)) (of_versi
   not_within turns are not =
       nowhere_within (λ others also within. not (rw (same_turns version value others turns also are) at within))
 
--- where the member with the threads is no list of turns, the value has none
-pub none_listed : {Refusal : Type 0} (version known : Version) (value threads : Data)
-    (answer : Result (Option (List (List (Option Turn)))) Refusal) → version ≡ known
-    → Some threads ≡ get (codes "threads") value
-    → IfOk answer
-    (λ found. IfNone found ((turns : List (List (Option Turn)))
-    → ¬ IsListOf (IsListOf (HasTurn known)) threads turns))
-    → IfOk answer (λ found. IfNone found ((turns : List (List (Option Turn))) → ¬ HasTurns version value turns))
-none_listed version known value threads (Ok None) is at none =
-    λ turns has. none turns
-    (of_member (λ member. IsListOf (IsListOf (HasTurn known)) member turns) (codes "threads") value threads at
-    (rw is at has))
-none_listed version known value threads answer is at none = tt
-
--- where the member with the threads is a list of turns, these are the value's
+-- what the member with the threads is a list of, the value has
 pub listed : {Refusal : Type 0} (version known : Version) (value threads : Data)
     (answer : Result (Option (List (List (Option Turn)))) Refusal) → version ≡ known
     → Some threads ≡ get (codes "threads") value
     → IfOk answer (λ found. IfSome found (IsListOf (IsListOf (HasTurn known)) threads))
+    → IfOk answer (λ found. IfNone found ((turns : List (List (Option Turn)))
+    → ¬ IsListOf (IsListOf (HasTurn known)) threads turns))
     → IfOk answer (λ found. IfSome found (HasTurns version value))
-listed version known value threads (Ok (Some x)) is at found =
-    rw is (threads, sym at, found)
-listed version known value threads answer is at found = tt
-
--- a thread's row is as that thread may wait
-row_within : (threads : List (List Op)) (turns : List (List (Option Turn))) (t : ℕ) (row : List (Option Turn))
-    → AreTurnsWithin threads turns → slice_get turns t ≡ Some row
-    → All (λ turn. IfSome turn (IsTurnWithin threads t)) row
-row_within threads turns t row within at =
-    rw (get_or_from_slice_get turns t row [] at) at (within t)
+    × IfOk answer (λ found. IfNone found ((turns : List (List (Option Turn))) → ¬ HasTurns version value turns))
+listed version known value threads (Ok None) is at found none = (
+  tt,
+  λ turns has. none turns
+      (of_member (λ member. IsListOf (IsListOf (HasTurn known)) member turns) (codes "threads") value threads at
+      (rw is at has)),
+)
+listed version known value threads (Ok (Some x)) is at found none = (rw is (threads, sym at, found), tt)
+listed version known value threads (Err e) is at found none = (tt, tt)
 
 ops_bounded : (threads : List (List Op)) (k : ℕ) → All (λ ops. (1 ≤ length ops) × (length ops ≤ 6)) threads
     → length (get_or threads k []) ≤ 6
-ops_bounded [] k all = omega arith
-ops_bounded (ops ∷ rest) zero all = (all 0 [] (omega arith)).1
-ops_bounded (ops ∷ rest) (suc k) all = ops_bounded rest k (λ j d below. all (suc j) d (omega arith))
+ops_bounded threads k all = elim (cases_lt k (length threads)) [
+  | inl within ↦ (all k [] within).1
+  | inr past ↦ rw (get_or_past threads k [] past) (omega arith)
+]
 
 -- the numbers of a turn are small
 pub small_turn : (threads : List (List Op)) (turns : List (List (Option Turn))) (t i : ℕ) (row : List (Option Turn))
     (turn : Turn) → All (λ ops. (1 ≤ length ops) × (length ops ≤ 6)) threads → AreTurnsWithin threads turns
     → slice_get turns t ≡ Some row → slice_get row i ≡ Some (Some turn) → (turn.thread < t) × (turn.count ≤ 6)
 small_turn threads turns t i row turn counts within at_t at_i =
-    let all = row_within threads turns t row within at_t in
+    let all = rw (get_or_from_slice_get turns t row [] at_t) at (within t) in
     let is : IsTurnWithin threads t turn =
     rw (get_or_from_slice_get row i (Some turn) None at_i) at (all i None (slice_get_within row i (Some turn) at_i)) in
     (is.lower, omega (arith, is.bounded, ops_bounded threads turn.thread counts))

@@ -12,9 +12,8 @@ nat_exact = eqb-true
 
 pub bool_exact : IsExact beq
 bool_exact true true h = refl
-bool_exact true false h = cc
-bool_exact false true h = cc
 bool_exact false false h = refl
+bool_exact a b h = cc
 
 -- both tests held
 pub both : (a b : Bool) → (a && b) ≡ true → (a ≡ true) × (b ≡ true)
@@ -24,16 +23,14 @@ both false b h = cc
 module _ {A : Type 0} {E : A → A → Bool} (exact : IsExact E) where
   pub option_exact : IsExact (option_eq E)
   option_exact None None h = refl
-  option_exact None (Some b) h = cc
-  option_exact (Some a) None h = cc
   option_exact (Some a) (Some b) h = ap Some (exact a b h)
+  option_exact a b h = cc
 
   pub list_exact : IsExact (pointwise E)
   list_exact [] [] h = refl
-  list_exact [] (b ∷ bs) h = cc
-  list_exact (a ∷ rest) [] h = cc
   list_exact (a ∷ rest) (b ∷ others) h =
       let pieces = both (E a b) (pointwise E rest others) h in
       let head : a ≡ b = exact a b pieces.0 in
       let tail : rest ≡ others = list_exact rest others pieces.1 in
       cc
+  list_exact a b h = cc

@@ -1,5 +1,5 @@
+use Rattle.std.proofs.lemmas.List.{drop_all, take_all}
 use Rattle.lin.proofs.Completions.{IsLinearization-completes, Completes-linearization, Completes-more, Completes-stuck}
-use Rattle.lin.proofs.Completions.{Completes-end}
 use Rattle.lin.proofs.order.check_order.Goals as goal
 
 pub returns-in-None : goal.returns-in-None
@@ -22,7 +22,8 @@ returns c =
     let program = c.args.program.now in
     let history = c.args.history.now in
     let order = c.args.order.now in
-    let ends = Completes-end program history order c.loop-i.i c.loop-i-test.false _ _ c.loop-i.invariant in
+    let past = c.loop-i-test.false in
+    let ends = rw (take_all c.loop-i.i order past, drop_all c.loop-i.i order past) at c.loop-i.invariant in
     let stated = c.lists_every_finished.ensures in (
       λ yes. Completes-linearization program history order (ends.1 (stated.0 yes)),
       λ linearization. stated.1 (ends.0 (IsLinearization-completes program history order linearization)),

@@ -1,27 +1,23 @@
-use Rattle.std.proofs.Common.{refl, ◌≡◌, ℕ, List, [], ◌∷◌, ◌++◌, ◌∙◌, sym, ap, subst, arith, true≢false}
+use Rattle.std.proofs.Common.{refl, ◌≡◌, ℕ, List, [], ◌∷◌, ◌++◌, ◌∙◌, sym, ap, arith, true≢false}
 use Rattle.std.proofs.Common.{append-nil}
 use Rattle.sched_program.specs.declared.operation.OpId.{OpId}
-use Rattle.lin.specs.Completion.{listed_in, Completes, EveryFinishedIsListed, IsHopeless}
+use Rattle.lin.specs.Completion.{listed_in, IsHopeless}
 use Rattle.lin.specs.KeySet.{keys_in}
 use Rattle.lin.specs.OpSet.{operations_in}
 use Rattle.lin.specs.Configuration.{IsHopelessAt}
 use Rattle.lin.proofs.Configurations.{All-found, All-kept}
 use Rattle.std.proofs.lemmas.List.{take_all}
-use Rattle.lin.proofs.Names.{each_more, IsSome-value_at}
-use Rattle.lin.proofs.Search.{once_pushed, nothing_left, found_more, not_after, popped}
+use Rattle.std.proofs.lemmas.List.Elements.{All-more}
+use Rattle.lin.proofs.Names.{IsSome-value_at}
+use Rattle.lin.proofs.Search.{CannotComeNext, once_pushed, nothing_left, found_more, not_after, popped}
 use Rattle.lin.proofs.Steps.{every_listed}
 use Rattle.lin.proofs.searcher.+complete.Goals as goal
 use Rattle.lin.proofs.searcher.+complete.Goals.{in-Some+in_ok-push+in_ok-complete+else-branch, in_default}
 
 pub returns-then-is_within-clause-answer : goal.returns-then-is_within-clause-answer
 returns-then-is_within-clause-answer t c =
-    let within = c.is_within.ensures.0 c.if-is_within.true in
-    let every =
-    (every_listed c.args.timeline.now _ (operations_in c.args.from.at.listed) c.finished.ensures.value).0 within in (
-      [],
-      sym (append-nil c.args.order.now.items),
-      subst (EveryFinishedIsListed c.args.timeline.now) c.requires.listed every,
-    )
+    let listed = every_listed c.args.timeline.now _ _ _ c.finished.ensures.value c.requires.listed in
+    ([], sym (append-nil c.args.order.now.items), listed.0 (c.is_within.ensures.0 c.if-is_within.true))
 
 pub returns-then-contains-clause-answer : goal.returns-then-contains-clause-answer
 returns-then-contains-clause-answer t c =
@@ -58,11 +54,10 @@ loop-name-preserved t c =
     let keys = keys_in c.args.from.at.keys in
     let name = c.loop-name-item.result.0 in
     let same = c.loop-name.invariant.same in
-    let Fails : OpId → Type 0 =
-    λ a. (rest : List OpId) → Completes program history (listed_in old) keys (a ∷ rest) → ⊥ in
+    let Fails : OpId → Type 0 = CannotComeNext program history (listed_in old) keys in
     let more =
-    λ (here : Fails name). each_more Fails c.begun-name-items.result.now c.loop-name.name-index
-    c.loop-name-item.result c.loop-name-test.true (rw (← c.loop-name-item.is) here) c.loop-name.invariant.tried in
+    λ (here : Fails name). All-more (λ e. Fails e.0) c.begun-name-items.result.now c.loop-name.name-index
+    c.loop-name-item.result c.loop-name-test.true c.loop-name.invariant.tried (rw (← c.loop-name-item.is) here) in
     elim c.match-step.branch [
       | in-Some+in_ok-push+in_ok-complete+else-branch w ↦
           let pushed : w.push.new.self.items ≡ old ++ name ∷ [] = rw same at w.in_ok-push.ensures.items in
@@ -86,13 +81,11 @@ hopeless : {t : ℕ} (c : goal.In_ok-insert t)
 hopeless {t} c =
     let history = c.args.timeline.now in
     let order = c.args.order.now.items in
-    let listed = every_listed history _ (operations_in c.args.from.at.listed) c.finished.ensures.value in
-    let missing = λ (every : EveryFinishedIsListed history (listed_in order)).
-    true≢false (sym (c.is_within.ensures.1 (listed.1 (subst (EveryFinishedIsListed history)
-    (sym c.requires.listed) every))) ∙ c.if-is_within.false) in
+    let listed = every_listed history _ _ _ c.finished.ensures.value c.requires.listed in
     let all = take_all c.loop-name.name-index c.begun-name-items.result.now c.loop-name-test.false in
-    nothing_left c.args.program.now history (listed_in order) (keys_in c.args.from.at.keys) missing
-    (λ a begun. c.loop-name.invariant.tried a (rw (all, c.begun-name-items.ensures.value) begun))
+    nothing_left c.args.program.now history (listed_in order) (keys_in c.args.from.at.keys)
+    (λ every. true≢false (sym (c.is_within.ensures.1 (listed.1 every)) ∙ c.if-is_within.false))
+    (rw (all, c.begun-name-items.ensures.value) at c.loop-name.invariant.tried)
 
 pub returns-clause-answer : goal.returns-clause-answer
 returns-clause-answer t c = (c.loop-name.invariant.same, hopeless c)

@@ -1,6 +1,5 @@
-use Rattle.std.proofs.Common.{◌∙◌, sym, ap, subst, subst₂}
+use Rattle.std.proofs.Common.{◌∙◌, sym, ap, subst₂}
 use Rattle.lin.specs.Keys.{keys_of}
-use Rattle.lin.specs.Linearization.{IsLinearization}
 use Rattle.lin.specs.Progress.{AreBarred}
 use Rattle.lin.proofs.Search.{found_linearization, none_linearization}
 use Rattle.lin.proofs.Steps.{barred_none}
@@ -14,7 +13,7 @@ complete-requires-clause-barred c =
 pub returns-then-branch-clause-found : goal.returns-then-branch-clause-found
 returns-then-branch-clause-found c =
     let found = rw c.if-branch.true at c.in_ok-complete.ensures.answer in
-    subst (λ history. IsLinearization c.args.program.now history c.complete.new.order.items) c.new-timeline.ensures
+    rw (← c.new-timeline.ensures)
     (found_linearization c.args.program.now c.new-timeline.result _ _ _ c.in_ok-order.ensures.items
     (c.of.ensures ∙ ap keys_of c.initial.ensures.value) found)
 
@@ -23,7 +22,7 @@ returns-else-branch-clause-none c =
     let none = rw c.if-branch.false at c.in_ok-complete.ensures.answer in
     λ some. none_linearization c.args.program.now c.new-timeline.result _ _ c.in_ok-order.ensures.items
     (c.of.ensures ∙ ap keys_of c.initial.ensures.value) none.1 some.0
-    (subst (λ history. IsLinearization c.args.program.now history some.0) (sym c.new-timeline.ensures) some.1)
+    (rw (← c.new-timeline.ensures) at some.1)
 
 pub returns-then-branch-clause-none : goal.returns-then-branch-clause-none
 returns-then-branch-clause-none c = tt

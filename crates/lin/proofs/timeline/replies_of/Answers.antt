@@ -1,4 +1,4 @@
-use Rattle.std.proofs.Common.{◌≡◌, ◌-◌, ◌<◌, Bool, false, length, get_or, Option, Some, None, ◌∙◌, ap, refl, sym, arith}
+use Rattle.std.proofs.Common.{◌≡◌, ◌-◌, Bool, false, length, get_or, Option, Some, None, ◌∙◌, ap, refl, sym, arith}
 use Rattle.std.proofs.lemmas.List.{get_or-replicate, length-set, drop_all}
 use Rattle.sched_program.specs.declared.operation.OpId.{OpId}
 use Rattle.sched_program.specs.Name.{value_at}
@@ -33,11 +33,9 @@ loop-i-preserved c =
     finished_has_place c.args.history.now c.finished-finished.ensures.events finished (c.loop-i.i - 1) nothing
     c.finished-finished.ensures.value (omega arith) in
     let P : Option Bool → Option Bool → Type 0 = λ o r. r ≡ o in
-    let in_table : c.place_of.result < length c.loop-i.replies = let bounded = has.0 in
-    let short = has.1 in omega (arith, c.place_of.ensures.value, c.loop-i.invariant.count) in
     record {
       count = length-set c.loop-i.replies c.place_of.result (Some x.1) ∙ c.loop-i.invariant.count;
       replies =
           holds_before P finished c.loop-i.i x nothing c.loop-i.replies c.place_of.result (Some x.1) (omega arith)
-          (omega arith) refl has c.place_of.ensures.value in_table refl c.loop-i.invariant.replies;
+          (omega arith) refl has c.place_of.ensures.value (omega arith) refl c.loop-i.invariant.replies;
     }

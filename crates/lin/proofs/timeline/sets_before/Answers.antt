@@ -18,11 +18,9 @@ loop-i-preserved c =
     let counts : operations_in c.counted.result ≡ counted (get_or begun (c.loop-i.i - 1) d).1 =
     c.counted.ensures ∙ ap (λ e. counted e.1)
     (get_or_default begun (c.loop-i.i - 1) c.index-begun-i-in-loop-i.result d within) in
-    let in_table : c.place_of.result < length c.loop-i.sets = let bounded = has.0 in
-    let short = has.1 in omega (arith, c.place_of.ensures.value, c.loop-i.invariant.count) in
     record {
       count = length-set c.loop-i.sets c.place_of.result c.counted.result ∙ c.loop-i.invariant.count;
       sets = holds_before P begun c.loop-i.i (get_or begun (c.loop-i.i - 1) d) d c.loop-i.sets c.place_of.result
-          c.counted.result (omega arith) (omega arith) refl has c.place_of.ensures.value in_table counts
+          c.counted.result (omega arith) (omega arith) refl has c.place_of.ensures.value (omega arith) counts
           c.loop-i.invariant.sets;
     }

@@ -1,8 +1,8 @@
 -- The step is a draw by a seat that is not spent.
 use Rattle.std.proofs.Common.{◌≡◌, ◌∙◌, if◌then◌else◌, ap, rules, sym}
 use Rattle.claims.specs.Values.{Seated}
+use Rattle.claims.specs.Rule.{draws}
 use Rattle.claims.proofs.Steps.{draws_kept}
-use Rattle.claims.proofs.Turns.{seat_of_size}
 use Rattle.claims.proofs.counter.Claims.claim.Goals as goal
 
 pub fetch_add-place-requires : goal.fetch_add-place-requires
@@ -14,7 +14,9 @@ fetch_add-place-requires c = (
 
 pub returns-then-seat-clause-none_left : goal.returns-then-seat-clause-none_left
 returns-then-seat-clause-none_left c =
-    let stated : c.args.seat.now.drew.spent ≡ 1 =
+    let seat = c.args.seat.now.drew in
+    let stated : seat.spent ≡ 1 =
     ap (λ (s : Seated). s.drew.spent) (sym c.seat.view_is) ∙ c.seat.invariant.0
     ∙ ap (λ b. if b then 1 else 0) c.if-seat.true in
-    seat_of_size c.args.seat.now.drew c.args.self.now.size c.requires.own.single stated c.requires.own.size
+    let all : draws seat.seats seat.places seat.spent seat.size ≡ draws 1 seat.places 1 c.args.self.now.size =
+    cc (c.requires.own.single, stated, c.requires.own.size) in all

@@ -1,5 +1,5 @@
 -- The last state has the view of the seat that is every seat.
-use Rattle.std.proofs.Common.{arith, ap, sym, ◌∙◌}
+use Rattle.std.proofs.Common.{arith, rules, ap, sym, ◌∙◌, IsPermutation}
 use Rattle.std.proofs.lemmas.List.Sorted.{IsPermutation-trans, IsPermutation-sym, length_permutation}
 use Rattle.std.proofs.lemmas.List.FromFn.{length-range_with_len}
 use Rattle.claims.specs.Values.{Counter}
@@ -9,27 +9,21 @@ use Rattle.claims.proofs.Steps.{ends_at}
 use Rattle.claims.proofs.Turns.{first_word}
 use Rattle.claims.proofs.counter.Claims.close.Goals as goal
 
-pub returns-clause-once : goal.returns-clause-once
-returns-clause-once c =
+pub returns : goal.returns
+returns c =
     let last = c.close_with-closed.ensures.values.2 in
     let all =
     c.gather-whole.ensures.held ∙ c.requires.every ∙ ap (λ (s : Counter). s.size.seats) (sym c.self.view_is) in
     let end =
     ends_at _ _ _ _ last.0 _ last.1 c.self.invariant.0 all
     (first_word last.0.words _ c.word-word.result last.2 c.word-word.ensures) in
-    rw c.min-drawn.ensures (IsPermutation-trans _ _ _ end.drawn (IsPermutation-sym _ _ c.gather-whole.ensures.places))
-
-pub returns-clause-drawn : goal.returns-clause-drawn
-returns-clause-drawn c =
-    sym (length_permutation (below c.min-drawn.result) (places_drawn c.args.seats.items) (returns-clause-once c)
-    ∙ length-range_with_len 0 c.min-drawn.result)
-
-pub returns-clause-spent : goal.returns-clause-spent
-returns-clause-spent c =
-    let last = c.close_with-closed.ensures.values.2 in
-    let all =
-    c.gather-whole.ensures.held ∙ c.requires.every ∙ ap (λ (s : Counter). s.size.seats) (sym c.self.view_is) in
-    let end =
-    ends_at _ _ _ _ last.0 _ last.1 c.self.invariant.0 all
-    (first_word last.0.words _ c.word-word.result last.2 c.word-word.ensures) in
-    omega (arith, end.stated, c.gather-whole.ensures.spent, c.min-drawn.ensures)
+    let once : IsPermutation (below c.min-drawn.result) (places_drawn c.args.seats.items) =
+    rw c.min-drawn.ensures
+    (IsPermutation-trans _ _ _ end.drawn (IsPermutation-sym _ _ c.gather-whole.ensures.places)) in
+    record {
+      once = once;
+      drawn = sym (length_permutation _ _ once ∙ length-range_with_len 0 c.min-drawn.result);
+      spent = omega (arith, end.stated, c.gather-whole.ensures.spent, c.min-drawn.ensures);
+      within = search rules;
+      whole = search rules;
+    }
