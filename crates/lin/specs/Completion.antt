@@ -43,11 +43,3 @@ Completes program history listed keys (a ∷ rest) =
 -- no list completes a linearization
 abbrev pub IsHopeless : Program → History → Listed → Keys → Type 0
 IsHopeless program history listed keys = (rest : List OpId) → Completes program history listed keys rest → ⊥
-
--- one operation is not among those listed and another one, and ended before that one began
-abbrev pub ComesFirst : History → Listed → OpId → OpId → Type 0
-ComesFirst history listed a b = (with_name listed b a ≡ false) × EndedBefore history a b
-
--- a finished operation comes first
-abbrev pub MustWait : History → Listed → OpId → Type 0
-MustWait history listed b = (a : OpId) × IsSome (reply history a) × ComesFirst history listed a b
