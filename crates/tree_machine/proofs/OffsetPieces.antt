@@ -1,15 +1,13 @@
 -- What is copied from the bytes of a state by their offsets.
-use Rattle.std.proofs.Common.{◌≡◌, ℕ, ◌+◌, ◌-◌, ◌≤◌, Bool, true, false, List, [], ◌∷◌, ◌++◌, length, take, drop}
+use Rattle.std.proofs.Common.{◌≡◌, ℕ, ◌+◌, ◌-◌, ◌≤◌, Bool, true, false, List, [], ◌++◌, length, take, drop}
 use Rattle.std.proofs.Common.{Option, refl, sym, ap, ◌∙◌, arith, append_assoc, if◌then◌else◌, length-append}
 use Rattle.std.specs.Prelude.{IsTrue}
-use Rattle.std.proofs.lemmas.List.{append-nil, length-map}
+use Rattle.std.proofs.lemmas.List.{append-nil}
 use Rattle.std.proofs.Math.Seq.{drop-append_seam, take-append_seam}
-use Rattle.std.specs.List.{flat_map}
 use Rattle.tree_machine.specs.Alike.{notes_of, places_of, replies_of}
 use Rattle.tree_machine.specs.Offsets.{AreOffsetsOf, op_log_of}
 use Rattle.tree_machine.specs.Flat.{number_code}
-use Rattle.tree_machine.specs.FormCode.{astray_code, cut_code, op_log_code, label_code, list_code, note_code}
-use Rattle.tree_machine.specs.FormCode.{replies_code, state_code}
+use Rattle.tree_machine.specs.FormCode.{cut_code, op_log_code, label_code}
 use Rattle.tree_machine.specs.declared.state.Thread.{Thread}
 use Rattle.tree_machine.specs.declared.code_offsets.CodeOffsets.{CodeOffsets}
 use Rattle.tree_machine.specs.Naming.{code_by}
@@ -25,21 +23,10 @@ piece_between a b c {from = from} {to = to} e f t =
     let count : to - from ≡ length b = omega arith in
     rw (count, e, f, drop-append_seam a (b ++ c)) (take-append_seam b c)
 
-regroup : {X : Type 0} (a b c d : List X) → a ++ (b ++ (c ++ d)) ≡ (a ++ (b ++ c)) ++ d
-regroup a b c d = simp append_assoc
-
 -- where the third of four pieces ends
 third_ends : (a b c d : List ℕ) {xs : List ℕ} {p q r : ℕ} → xs ≡ a ++ (b ++ (c ++ d)) → p ≡ length a
     → q ≡ p + length b → r ≡ q + length c → r ≤ length xs
 third_ends a b c d e f g h = rw e (simp length-append (omega arith))
-
--- where the second and the third of three pieces begin, by what is behind them
-begins : (a b c rest : List ℕ) (n : ℕ) {xs : List ℕ} {behind : ℕ} → xs ≡ a ++ (b ++ c) → xs ≡ a ++ n ∷ rest
-    → behind ≡ length c
-    → (length xs - length rest - 1 ≡ length a) × (length xs - behind ≡ length xs - length rest - 1 + length b)
-begins a b c rest n e f h =
-    let all = simp length-append at (ap length e) in
-    let front = simp length-append at (ap length f) in (omega arith, omega arith)
 
 -- a label in its pieces
 pub label_is : {Machine Memory Place Form : Type 0} (naming : Naming)
@@ -113,39 +100,3 @@ module _ {Memory Place : Type 0} (front_code : Front → Memory → List ℕ)
     op_log_piece mem false to k e =
         piece_between (number_code source.steps) (op_log_of source) _ are.written are.op_log (e ∙ are.memory)
         ∙ sym (append-nil (op_log_of source))
-
-  -- bytes that were read as the number of steps, how many threads there are, and all that comes behind that
-  module _ {Machine Form : Type 0} (state : State Machine Memory Place Form) {threads : List (Thread Place)}
-      {bytes rest : List ℕ} {count behind end : ℕ} (front : Front) (same : state.threads ≡ threads)
-      (head : bytes ≡ number_code state.steps ++ count ∷ rest)
-      (body : rest ≡ flat_map replies_code (replies_of threads) ++ (list_code (list_code note_code) (notes_of threads)
-      ++ (astray_code state.astray ++ cut front state.memory (places_of threads))))
-      (many : length threads ≡ count) (behind_is : behind ≡ length (cut front state.memory (places_of threads)))
-      (end_is : end ≡ length (front_code front state.memory)) where
-    written : bytes ≡ state_code (cut front) state
-    written =
-        rw (same, head, body, length-map threads (λ thread. thread.replies), many)
-        (ap (λ l. number_code state.steps ++ count ∷ l)
-        (regroup (flat_map replies_code (replies_of threads)) (list_code (list_code note_code) (notes_of threads))
-        (astray_code state.astray) (cut front state.memory (places_of threads))))
-
-    pub offsets_read : AreOffsetsOf front_code behind_code bytes
-        (record {
-          op_log = length bytes - length rest - 1;
-          memory = length bytes - behind;
-          held = length bytes - behind + end;
-          front = front;
-        }) state
-    offsets_read =
-        let at =
-        begins (number_code state.steps) (op_log_of state) (cut front state.memory (places_of state.threads)) rest
-        count written head (rw (← same) at behind_is) in
-        record {
-          written = written;
-          op_log = at.0;
-          memory = at.1;
-          held = ap (λ n. length bytes - behind + n) end_is;
-        }
-
-    pub offsets_fit : length bytes - behind + end ≤ length bytes
-    offsets_fit = held_within _ state offsets_read

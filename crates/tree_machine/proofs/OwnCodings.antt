@@ -41,16 +41,6 @@ module _ (n k : ℕ) (l : n ≤ k) where
 
 -- a coder in which each node and each record has its own number
 module _ (n r : ℕ) (own : Coding) (is : IsOwn n r own) where
-  -- fewer have theirs
-  pub own_fewer : {m k : ℕ} → m ≤ n → k ≤ r → IsOwn m k own
-  own_fewer l g =
-      record {
-        nodes = is.nodes;
-        records = is.records;
-        nodes_bounded = omega (arith, is.nodes_bounded);
-        records_bounded = omega (arith, is.records_bounded);
-      }
-
   -- nothing gets another number, and a part is written as it is
   own_part : (p : Part) → IsPartBelow n r p → (with_part own p ≡ own) × (coded_by own p ≡ cell_code (part_content p))
   own_part p h =
