@@ -1,13 +1,13 @@
 -- The front of canonical parts: a walk from the fixed nodes writes it.
-use Rattle.std.proofs.Common.{◌≡◌, ℕ, ◌+◌, ◌<◌, ◌≤◌, ◌||◌, List, [], ◌∷◌, ◌++◌, map, length, take, refl, sym, ◌∙◌}
-use Rattle.std.proofs.Common.{ap, arith, append-nil}
+use Rattle.std.proofs.Common.{◌≡◌, ℕ, ◌+◌, ◌<◌, ◌≤◌, ◌||◌, List, [], ◌∷◌, ◌++◌, map, length, take, refl, sym, ◌∙◌, ap}
+use Rattle.std.proofs.Common.{arith, append-nil}
 use Rattle.std.specs.Prelude.{nat_eq}
 use Rattle.std.proofs.lemmas.List.Elements.{All-nil}
 use Rattle.std.proofs.lemmas.List.{length-map, map-append}
 use Rattle.std.proofs.Math.Seq.{take-append_seam}
 use Rattle.std.proofs.Math.Bool.{or-true}
-use Rattle.tree_machine.specs.Canonical.{nodes_met, records_met}
-use Rattle.tree_machine.specs.Canonical.{canonical_parts, canonical_front, front_nodes, front_order, front_records}
+use Rattle.tree_machine.specs.Canonical.{nodes_met, records_met, canonical_parts, canonical_front, front_nodes}
+use Rattle.tree_machine.specs.Canonical.{front_order, front_records}
 use Rattle.tree_machine.specs.Coding.{Coding, IsWalk, nodes_by, records_by}
 use Rattle.tree_machine.specs.Flat.{front_code, graph_code}
 use Rattle.tree_machine.specs.Graphs.{numbers_from}
@@ -18,7 +18,7 @@ use Rattle.tree_machine.specs.Laws.CellOrder.{Extends, Has}
 use Rattle.tree_machine.specs.Laws.CellPlaces.{has_at}
 use Rattle.tree_machine.specs.Laws.PartsBy.{IsPartMet}
 use Rattle.tree_machine.proofs.Codings.{renamed_kept}
-use Rattle.tree_machine.proofs.Queued.{nodes_of, records_of}
+use Rattle.tree_machine.proofs.NamesMet.{nodes_of, records_of}
 
 -- functions that agree on a list agree on it in front of a longer one
 front_alike : {A : Type 0} {xs ys : List ℕ} (f g : ℕ → A) → Extends xs ys → ((x : ℕ) → Has xs x → f x ≡ g x)

@@ -1,14 +1,14 @@
 -- Names of nodes and of records that a walk meets: what is new among them comes behind what was met.
-use Rattle.std.proofs.Common.{◌≡◌, ℕ, ◌+◌, ◌<◌, Bool, true, false, cond, ◌||◌, List, [], ◌∷◌, ◌++◌}
-use Rattle.std.proofs.Common.{map, refl, sym, ◌∙◌, ap, arith, append_assoc, append-nil}
+use Rattle.std.proofs.Common.{◌≡◌, ℕ, ◌+◌, ◌<◌, Bool, true, false, cond, ◌||◌, List, [], ◌∷◌, ◌++◌, map, refl, sym, ◌∙◌}
+use Rattle.std.proofs.Common.{ap, arith, append_assoc, append-nil, ◌-◌}
 use Rattle.std.specs.Prelude.{Option, Some, None, nat_eq, nat_lt}
 use Rattle.std.specs.List.{All, list_any}
 use Rattle.std.specs.Option.{option_map}
 use Rattle.std.proofs.Math.Seq.{drop-append_seam}
 use Rattle.std.proofs.lemmas.Iterator.Adapters.{option_map_id}
 use Rattle.std.proofs.lemmas.List.{map-append, map-id}
-use Rattle.std.proofs.lemmas.List.Elements.{All-append, All-cons, All-map, All-nil, All-weaker}
-use Rattle.std.proofs.lemmas.List.Elements.{filter-append, recursion_from_All}
+use Rattle.std.proofs.lemmas.List.Elements.{All-append, All-cons, All-map, All-nil, All-weaker, filter-append}
+use Rattle.std.proofs.lemmas.List.Elements.{recursion_from_All}
 use Rattle.std.proofs.lemmas.List.Folds.{list_any-append}
 use Rattle.tree_machine.specs.Canonical.{as_cells, nodes_met, records_met}
 use Rattle.tree_machine.specs.Cells.{met_all}
@@ -16,10 +16,8 @@ use Rattle.tree_machine.specs.Coding.{newly}
 use Rattle.tree_machine.specs.Parts.{Part, IsPartBelow, part_cell}
 use Rattle.tree_machine.specs.Laws.CellOrder.{Extends, RefsBelow}
 use Rattle.tree_machine.specs.Laws.CellSteps.{same_tests}
-use Rattle.tree_machine.specs.Laws.MetLists.{node_has, has_node, record_has, has_record}
-use Rattle.tree_machine.proofs.Codings.{met_newly}
-use Rattle.tree_machine.proofs.Passes.{met_all_append}
-use Rattle.tree_machine.proofs.Queued.{nodes_of, records_of}
+use Rattle.tree_machine.specs.Laws.MetLists.{node_has, has_node, record_has, has_record, nodes_first, records_first}
+use Rattle.tree_machine.proofs.Codings.{met_newly, met_all_append}
 
 -- ---- names that are raised
 
@@ -79,6 +77,16 @@ nodes_append n xs ys = filter-append (λ x. nat_lt x n) xs ys
 pub records_append : (n r : ℕ) (xs ys : List ℕ)
     → records_met n r (xs ++ ys) ≡ records_met n r xs ++ records_met n r ys
 records_append n r xs ys = simp (filter-append, map-append)
+
+-- nodes and records that come first
+module _ (n r : ℕ) (nodes records : List ℕ) (below : All (λ x. x < n) nodes) where
+  pub nodes_of : nodes_met n (as_cells n nodes records) ≡ nodes
+  nodes_of = simp append-nil at (nodes_first n r nodes records [] (recursion_from_All _ _ below))
+
+  pub records_of : All (λ y. y < r) records → records_met n r (as_cells n nodes records) ≡ records
+  records_of h =
+      simp append-nil
+      at (records_first n r nodes records [] (recursion_from_All _ _ below) (recursion_from_All _ _ h))
 
 -- what is met later comes behind
 pub nodes_extend : {xs ys : List ℕ} (n : ℕ) → Extends xs ys → Extends (nodes_met n xs) (nodes_met n ys)

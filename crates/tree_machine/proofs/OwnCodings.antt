@@ -1,6 +1,6 @@
 -- A coder in which each node and each record has its own number: it writes parts as they are.
-use Rattle.std.proofs.Common.{◌≡◌, ℕ, ◌<◌, ◌≤◌, List, [], ◌∷◌, ◌++◌, map, length, refl, sym, ◌∙◌, ap, subst}
-use Rattle.std.proofs.Common.{arith, append-nil, append_assoc, zero-add}
+use Rattle.std.proofs.Common.{◌≡◌, ℕ, ◌<◌, ◌≤◌, List, [], ◌∷◌, ◌++◌, map, length, refl, sym, ◌∙◌, ap, subst, arith}
+use Rattle.std.proofs.Common.{append-nil, append_assoc, zero-add}
 use Rattle.std.specs.Prelude.{slice_get, Option, Some, None, nat_eq}
 use Rattle.std.specs.List.{All, IsDistinct}
 use Rattle.std.specs.Option.{option_and_then}
@@ -17,8 +17,7 @@ use Rattle.tree_machine.specs.Laws.CellPlaces.{has_at, place_at}
 use Rattle.tree_machine.specs.Laws.Fronts.{own_parts_code}
 use Rattle.tree_machine.specs.Laws.MetLists.{number_at}
 use Rattle.tree_machine.specs.Laws.SmallCodes.{small_code}
-use Rattle.tree_machine.proofs.PartsWritten.{codes_append}
-use Rattle.tree_machine.proofs.Queued.{met_old}
+use Rattle.tree_machine.proofs.Codings.{codes_append, met_old}
 
 -- names below n, among the numbers below k: nothing new is met, and each has its own place
 module _ (n k : ℕ) (l : n ≤ k) where

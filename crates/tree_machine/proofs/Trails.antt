@@ -1,28 +1,29 @@
--- Walks that write what they visit.
-use Rattle.std.proofs.Common.{◌≡◌, ℕ, zero, suc, ◌+◌, ◌-◌, ◌<◌, ◌≤◌, ◌⊎◌, List, [], ◌∷◌, ◌++◌, length, take}
-use Rattle.std.proofs.Common.{refl, sym, ◌∙◌, ap, subst, inl, inr, arith, append_assoc, append-nil, length-append}
-use Rattle.std.proofs.Common.{zero-add, add-zero, add-suc}
+-- Walks that write what they visit, and a graph in bytes, behind counts that were put first.
+use Rattle.std.proofs.Common.{◌≡◌, ℕ, zero, suc, ◌+◌, ◌-◌, ◌<◌, ◌≤◌, ◌⊎◌, List, [], ◌∷◌, ◌++◌, length, take, refl, sym}
+use Rattle.std.proofs.Common.{◌∙◌, ap, subst, inl, inr, arith, append_assoc, append-nil, length-append, zero-add}
+use Rattle.std.proofs.Common.{add-zero, add-suc, map, drop}
 use Rattle.std.proofs.Math.Nat.{add_comm}
 use Rattle.std.specs.Prelude.{slice_get, Some, None}
 use Rattle.std.specs.List.{All}
-use Rattle.std.proofs.lemmas.List.{map-append, take-append-le, take_all, take_more}
+use Rattle.std.proofs.lemmas.List.{map-append, take-append-le, take_all, take_more, length-map}
 use Rattle.std.proofs.lemmas.Grind.{flat_map-append}
 use Rattle.std.proofs.lemmas.List.Elements.{filter-append, All-append, recursion_from_All}
 use Rattle.std.proofs.lemmas.Option.{slice_get_past, slice_get_within, get_or_from_slice_get}
+use Rattle.std.proofs.Math.Seq.{drop-append-add, take-append_seam}
 use Rattle.tree_machine.specs.Canonical.{nodes_met, records_met, renamed_part}
 use Rattle.tree_machine.specs.Cells.{Content, content_at, met_all, met_in, order_of, IsRooted}
 use Rattle.tree_machine.specs.Coding.{Coding, IsVisited, IsWalk, coded_by, nodes_by, records_by, with_part}
-use Rattle.tree_machine.specs.Flat.{cell_code, part_codes, part_content}
-use Rattle.tree_machine.specs.Parts.{Part, Parts, ArePartsInRange, IsPartBelow, part_at}
-use Rattle.tree_machine.specs.Parts.{part_cell, parts_graph, parts_held}
-use Rattle.tree_machine.specs.Laws.CellOrder.{Extends, extends_itself, extends_more, visited_extends}
-use Rattle.tree_machine.specs.Laws.CellOrder.{all_has, length-order, met_all_extends, met_all_has, met_in_order}
-use Rattle.tree_machine.specs.Laws.CellOrder.{met_in_stable}
+use Rattle.tree_machine.specs.Flat.{cell_code, part_codes, part_content, graph_code}
+use Rattle.tree_machine.specs.Parts.{Part, Parts, ArePartsInRange, IsPartBelow, part_at, part_cell, parts_graph}
+use Rattle.tree_machine.specs.Parts.{parts_held}
+use Rattle.tree_machine.specs.Laws.CellOrder.{Extends, extends_itself, extends_more, visited_extends, all_has}
+use Rattle.tree_machine.specs.Laws.CellOrder.{length-order, met_all_extends, met_all_has, met_in_order, met_in_stable}
 use Rattle.tree_machine.specs.Laws.CellPlaces.{has_at}
 use Rattle.tree_machine.specs.Laws.PartCells.{node_at, record_at}
 use Rattle.tree_machine.specs.Laws.MetLists.{test_node, test_other, test_record, test_before}
-use Rattle.tree_machine.proofs.Codings.{renamed_kept}
-use Rattle.tree_machine.proofs.NamesMet.{new_cells, part_met}
+use Rattle.tree_machine.specs.Laws.SmallCodes.{small_code}
+use Rattle.tree_machine.proofs.Codings.{renamed_kept, codes_append}
+use Rattle.tree_machine.proofs.NamesMet.{new_cells, part_met, nodes_append, records_append}
 use Rattle.tree_machine.proofs.VisitedParts.{part_below}
 use Rattle.tree_machine.proofs.Walks.{met_in_done, met_in_next}
 
@@ -211,3 +212,35 @@ module _ {s : Parts} {roots before : List ℕ} {k : ℕ} {front apart : List ℕ
           subst (λ q. AreWritten s front apart q bytes out c) (take_all k c.queue l)
               (t.written c (extends_itself c.nodes) (extends_itself c.records)),
         )
+
+-- ---- the graph
+
+-- what was met before is counted apart
+counted : (keep : List ℕ → List ℕ) (f : ℕ → Part) → ((xs ys : List ℕ) → keep (xs ++ ys) ≡ keep xs ++ keep ys)
+    → (before queue all : List ℕ) (count n : ℕ) → all ≡ keep (before ++ queue) → count ≡ length all
+    → n ≡ length (keep before) → length (map f (keep queue)) ≡ count - n
+counted keep f append before queue all count n e count_is n_is =
+    let many = ap length (e ∙ append before queue) ∙ length-append (keep before) (keep queue) in
+    omega (arith, length-map (keep queue) f, many)
+
+-- the counts are set once all is visited, and the records come behind the nodes
+pub graph_written : {s : Parts} {roots before : List ℕ} {v : ℕ} {c : Coding} → IsWalk s roots before v c
+    → (old : List ℕ) {put apart set end : List ℕ} {place nodes others n r : ℕ} → place ≡ length old
+    → put ≡ (old ++ 0 ∷ 0 ∷ []) ++ part_codes (nodes_by c s c.queue) → apart ≡ part_codes (records_by c s c.queue)
+    → nodes ≡ length c.nodes → nodes < 255 → others ≡ length c.records → others < 255
+    → n ≡ length (nodes_met (length s.nodes) before)
+    → r ≡ length (records_met (length s.nodes) (length s.records) before)
+    → set ≡ take place put ++ ((nodes - n) ∷ (others - r) ∷ drop (place + 2) put) → end ≡ set ++ apart
+    → end ≡ old ++ graph_code (nodes_by c s c.queue) (records_by c s c.queue)
+graph_written {s} {before} {c} w old {nodes = nodes} {others = others} {n = n} {r = r} hp hc ha en few er least hn hr
+    hs he =
+    let ns = nodes_by c s c.queue in
+    let rs = records_by c s c.queue in
+    let behind = 0 ∷ 0 ∷ part_codes ns in
+    let nodes_are : length ns ≡ nodes - n =
+    counted (nodes_met _) _ (nodes_append _) before c.queue c.nodes nodes n w.nodes en hn in
+    let records_are : length rs ≡ others - r =
+    counted (records_met _ _) _ (records_append _ _) before c.queue c.records others r w.records er hr in
+    rw (he, hs, ha, hp, hc ∙ append_assoc old (0 ∷ 0 ∷ []) (part_codes ns), take-append_seam old behind, append_assoc)
+    (rw (drop-append-add old behind 2, small_code (length ns) (omega arith), small_code (length rs) (omega arith))
+    (rw (nodes_are, records_are, codes_append ns rs) refl))

@@ -1,5 +1,5 @@
 use Rattle.std.proofs.Common.{arith, refl}
-use Rattle.tree_machine.proofs.PartsLeft.{left_next, left_none, next_named}
+use Rattle.tree_machine.proofs.VisitedParts.{left_next, left_none, next_named}
 use Rattle.tree_machine.proofs.part_code.visit_all_held.Goals as goal
 
 pub loop-index-init : goal.loop-index-init

@@ -1,9 +1,6 @@
-use Rattle.std.proofs.Common.{arith, refl}
-use Rattle.tree_machine.proofs.PartsLeft.{left_next, left_none, next_named}
+use Rattle.std.proofs.Common.{arith}
+use Rattle.tree_machine.proofs.VisitedParts.{left_next, left_none, next_named}
 use Rattle.tree_machine.proofs.part_code.visit_nodes.Goals as goal
-
-pub loop-index-init : goal.loop-index-init
-loop-index-init g c = record { coding = refl; written = refl }
 
 pub visit_node-requires-clause-named : goal.visit_node-requires-clause-named
 visit_node-requires-clause-named g c =

@@ -1,7 +1,7 @@
 -- The next operation is the one found, if it may begin.
 use Rattle.std.proofs.Common.{rules, ◌≡◌, ◌<◌, length, get_or, refl, arith}
 use Rattle.std.proofs.lemmas.Option.{slice_get_read}
-use Rattle.tree_machine.proofs.Steps.{next_due, next_not_due}
+use Rattle.tree_machine.proofs.Steps.{next_due}
 use Rattle.tree_machine.proofs.state.next_op.Goals as goal
 
 pub returns-then-is_due : goal.returns-then-is_due
@@ -17,9 +17,3 @@ returns-then-is_due g c =
           c.in_ok-op.ensures c.get-2.ensures c.if-is_due.ensures;
       limits = c.threads.ensures.limits;
     }
-
-pub returns-else-is_due : goal.returns-else-is_due
-returns-else-is_due g c = record {
-  value = next_not_due c.args.program.now _ c.args.t c.args.thread.now c.if-is_due.ensures;
-  limits = tt;
-}
