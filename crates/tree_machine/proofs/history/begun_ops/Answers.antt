@@ -1,5 +1,5 @@
 use Rattle.std.proofs.Common.{ap, get_or}
-use Rattle.tree_machine.proofs.Histories.{one_thread_more}
+use Rattle.tree_machine.proofs.Runs.{one_thread_more}
 use Rattle.tree_machine.proofs.history.begun_ops.Goals as goal
 
 pub loop-t-preserved : goal.loop-t-preserved

@@ -1,7 +1,7 @@
 -- An operation that waits may begin once the other thread has finished the number of operations waited for.
 use Rattle.std.proofs.Common.{rules, ◌≡◌, ◌<◌, length, get_or, refl, arith}
 use Rattle.std.proofs.lemmas.Option.{slice_get_read}
-use Rattle.tree_machine.proofs.Steps.{due_by}
+use Rattle.tree_machine.proofs.States.{due_by}
 use Rattle.tree_machine.proofs.state.is_due.Goals as goal
 
 pub returns-in-Some-get : goal.returns-in-Some-get

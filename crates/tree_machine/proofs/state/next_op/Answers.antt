@@ -1,7 +1,7 @@
 -- The next operation is the one found, if it may begin.
 use Rattle.std.proofs.Common.{rules, ◌≡◌, ◌<◌, length, get_or, refl, arith}
 use Rattle.std.proofs.lemmas.Option.{slice_get_read}
-use Rattle.tree_machine.proofs.Steps.{next_due}
+use Rattle.tree_machine.proofs.States.{next_due}
 use Rattle.tree_machine.proofs.state.next_op.Goals as goal
 
 pub returns-then-is_due : goal.returns-then-is_due

@@ -2,7 +2,7 @@
 use Rattle.std.proofs.Common.{◌++◌, [], if◌then◌else◌, sym, ap, ◌∙◌, append_assoc}
 use Rattle.std.proofs.lemmas.Result.{on_ok_weaker}
 use Rattle.tree_machine.specs.Offsets.{op_log_of}
-use Rattle.tree_machine.proofs.OffsetPieces.{offsets_in_order, op_log_piece, memory_piece}
+use Rattle.tree_machine.proofs.Labels.{offsets_in_order, op_log_piece, memory_piece}
 use Rattle.tree_machine.proofs.state.State.put_front.Goals as goal
 
 pub put_piece-requires : goal.put_piece-requires

@@ -1,7 +1,7 @@
 -- The thread and the memory are restored, and the step is not counted any more.
 use Rattle.std.proofs.Common.{sym, ◌∙◌, refl}
 use Rattle.std.proofs.lemmas.Option.{same_Some}
-use Rattle.tree_machine.proofs.Undone.{taken_back}
+use Rattle.tree_machine.proofs.OpLog.{taken_back}
 use Rattle.tree_machine.proofs.state.State.take_back.Goals as goal
 
 pub returns-in-Some : goal.returns-in-Some
