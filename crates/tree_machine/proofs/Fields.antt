@@ -13,8 +13,8 @@ module _ {A B : Type 0} (code : B → List ℕ) (of : A → B) where
       ∙ (ap (λ l. code (of x) ++ l) (flat_map-map xs) ∙ sym (flat_map-cons (λ y. code (of y)) x xs))
 
   -- how many values there are, and the field of each, are the list of the fields
-  pub fields_coded : (xs : List A) (i : ℕ) (before after : List ℕ) → length xs ≤ i
-      → after ≡ before ++ length xs ∷ flat_map (λ x. code (of x)) (take i xs)
+  pub fields_coded : (xs : List A) {i : ℕ} (before : List ℕ) {after : List ℕ}
+      → after ≡ before ++ length xs ∷ flat_map (λ x. code (of x)) (take i xs) → length xs ≤ i
       → after ≡ before ++ list_code code (map of xs)
-  fields_coded xs i before after within put =
+  fields_coded xs {i} before put within =
       rw (put, take_all i xs within, length-map xs of, flat_map-map xs) refl

@@ -39,7 +39,7 @@ module _ (n k : ℕ) (l : n ≤ k) where
       )
 
 -- a coder in which each node and each record has its own number
-module _ (n r : ℕ) (own : Coding) (is : IsOwn n r own) where
+module _ {n r : ℕ} {own : Coding} (is : IsOwn n r own) where
   -- nothing gets another number, and a part is written as it is
   own_part : (p : Part) → IsPartBelow n r p → (with_part own p ≡ own) × (coded_by own p ≡ cell_code (part_content p))
   own_part p h =

@@ -34,11 +34,11 @@ module _ {A : Type 0} where
       ∙ sym (append_assoc (named thread 0 ys) (all_named (thread + 1) all) (named last 0 xs))
 
   -- one more operation
-  pub one_more : (before now next : List (OpId × A)) (thread index : ℕ) (xs : List A) (x : A)
+  pub one_more : (before : List (OpId × A)) {now next : List (OpId × A)} (thread index : ℕ) (xs : List A) {x : A}
       → slice_get xs index ≡ Some x → now ≡ before ++ named thread 0 (take index xs)
       → next ≡ now ++ (record { thread = thread; index = index }, x) ∷ []
       → next ≡ before ++ named thread 0 (take (index + 1) xs)
-  one_more before now next thread index xs x at_x at_now at_next =
+  one_more before thread index xs {x} at_x at_now at_next =
       let below = slice_get_within xs index x at_x in
       let last = named-push thread 0 (take index xs) x index
       (omega (arith, length-take-le index xs (omega arith))) in
@@ -46,11 +46,11 @@ module _ {A : Type 0} where
       (append_assoc before (named thread 0 (take index xs)) _)
 
   -- the operations of one more thread
-  pub one_thread_more : {X : Type 0} (read : X → List A) (now next : List (OpId × A)) (threads : List X) (t : ℕ)
-      (thread : X) → t < length threads → thread ≡ get_or threads t thread
+  pub one_thread_more : {X : Type 0} (read : X → List A) {now next : List (OpId × A)} (threads : List X) {t : ℕ}
+      {thread : X} → t < length threads → thread ≡ get_or threads t thread
       → now ≡ all_named 0 (map read (take t threads)) → next ≡ now ++ named t 0 (read thread)
       → next ≡ all_named 0 (map read (take (t + 1) threads))
-  one_thread_more read now next threads t thread below is at_now at_next =
+  one_thread_more read threads {t} {thread} below is at_now at_next =
       at_next ∙ ap (λ l. l ++ named t 0 (read thread)) at_now
       ∙ sym (ap (λ l. all_named 0 (map read l))
       (take_more threads t thread below ∙ ap (λ x. take t threads ++ x ∷ []) (sym is))

@@ -75,8 +75,7 @@ walk_next s roots before v c x p w at is below =
     ap (λ q. before ++ q) joined ∙ sym (append_assoc before c.queue more) in
     record {
       met =
-          met_in_next (parts_graph s ++ parts_held s) roots m (before ++ (with_part c p).queue) v x w.met at
-          (all ∙ sym met.cells ∙ ap (λ (d : Content). met_all m d.refs) (sym is));
+          met_in_next _ _ v w.met at (all ∙ sym met.cells ∙ ap (λ (d : Content). met_all m d.refs) (sym is));
       nodes = ap (λ l. met_all l p.nodes) w.nodes ∙ met.nodes ∙ ap (nodes_met n) (sym all);
       records = ap (λ l. met_all l p.records) w.records ∙ met.records ∙ ap (records_met n r) (sym all);
       nodes_below = w.nodes_below;

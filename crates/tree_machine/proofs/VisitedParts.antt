@@ -62,7 +62,7 @@ pub record AreLeft (start : Coding) (bytes : List ℕ) (parts : List Part) (k : 
     pub coding : with_parts now (drop k parts) ≡ with_parts start parts
     pub written : put ++ coded_parts now (drop k parts) ≡ bytes ++ coded_parts start parts
 
-module _ {start : Coding} {bytes : List ℕ} (parts : List Part) {k : ℕ} {now : Coding} {put : List ℕ}
+module _ {start now : Coding} {bytes put : List ℕ} {parts : List Part} {k : ℕ}
     (left : AreLeft start bytes parts k now put) where
   -- the next part names nodes and records that may be numbered
   pub next_named : {n r : ℕ} → n ≤ start.nodes_below → r ≤ start.records_below → All (IsPartBelow n r) parts

@@ -4,6 +4,4 @@ use Rattle.tree_machine.proofs.history.add_finished.Goals as goal
 
 pub loop-index-preserved : goal.loop-index-preserved
 loop-index-preserved c =
-    one_more c.args.finished.now.items c.loop-index.finished.items c.push.new.self.items c.args.thread
-    c.loop-index.index c.args.replies c.in-Some.reply
-    (sym c.get.ensures ∙ c.in-Some.is) c.loop-index.invariant c.in_ok-push.ensures.items
+    one_more _ _ _ _ (sym c.get.ensures ∙ c.in-Some.is) c.loop-index.invariant c.in_ok-push.ensures.items
