@@ -1,10 +1,10 @@
 -- Pairs of places in two lists: values that are written or appended on both sides keep them.
+use Rattle.std.proofs.Common.{arith, sym, ◌∙◌, inl, inr, length-append, length-set, add-zero}
 use Rattle.std.specs.Prelude.{◌≡◌, ℕ, ◌<◌, Bool, true, false, cond, nat_eq, List, [], ◌∷◌, ◌++◌, length, slice_get}
 use Rattle.std.specs.Prelude.{slice_set, Option, Some, refl}
-use Rattle.std.proofs.Common.{arith, sym, ◌∙◌, inl, inr, length-append, length-set}
 use Rattle.std.proofs.lemmas.Bool.Decides.{eqb_tells}
-use Rattle.tree_machine.proofs.Lists.{get_at, get-append_left, get-set_same, get-set_other}
 use Rattle.tree_machine.specs.Pairing.{IsAmong, IsOneToOne}
+use Rattle.tree_machine.proofs.Lists.{get_at, get-append_left, get-append_right, get-set_same, get-set_other}
 
 -- ---- numbers that are paired one to one
 
@@ -66,8 +66,7 @@ get_front : {A : Type 0} (xs more : List A) (x : ℕ) → x < length xs → slic
 get_front xs more x below = let t = get_at xs x below in get-append_left xs more x t.0 t.1 ∙ sym t.1
 
 get_last : {A : Type 0} (xs : List A) (a : A) → slice_get (xs ++ a ∷ []) (length xs) ≡ Some a
-get_last [] a = refl
-get_last (b ∷ xs) a = get_last xs a
+get_last xs a = rw add-zero at (get-append_right xs (a ∷ []) 0 a refl)
 
 module _ {A : Type 0} (pairs : List (ℕ × ℕ)) (xs ys : List A) (within : AreWithin (IsAmong pairs) xs ys) where
   -- the pair of the next places

@@ -1,6 +1,6 @@
 -- Names of nodes and of records that a walk meets: what is new among them comes behind what was met.
-use Rattle.std.proofs.Common.{◌≡◌, ℕ, ◌+◌, ◌<◌, Bool, true, false, cond, ◌||◌, List, [], ◌∷◌, ◌++◌, map, refl, sym, ◌∙◌}
-use Rattle.std.proofs.Common.{ap, arith, append_assoc, append-nil, ◌-◌}
+use Rattle.std.proofs.Common.{◌≡◌, ℕ, ◌+◌, ◌<◌, true, false, cond, ◌||◌, List, [], ◌∷◌, ◌++◌, map, sym, ◌∙◌, ap, arith}
+use Rattle.std.proofs.Common.{append_assoc, append-nil, ◌-◌}
 use Rattle.std.specs.Prelude.{Option, Some, None, nat_eq, nat_lt}
 use Rattle.std.specs.List.{All, list_any}
 use Rattle.std.specs.Option.{option_map}
@@ -17,6 +17,7 @@ use Rattle.tree_machine.specs.Parts.{Part, IsPartBelow, part_cell}
 use Rattle.tree_machine.specs.Laws.CellOrder.{Extends, RefsBelow}
 use Rattle.tree_machine.specs.Laws.CellSteps.{same_tests}
 use Rattle.tree_machine.specs.Laws.MetLists.{node_has, has_node, record_has, has_record, nodes_first, records_first}
+use Rattle.tree_machine.specs.Laws.StateExact.{same_answer}
 use Rattle.tree_machine.proofs.Codings.{met_newly, met_all_append}
 
 -- ---- names that are raised
@@ -64,11 +65,6 @@ module _ (f : ℕ → ℕ) (one : (x y : ℕ) → f x ≡ f y → x ≡ y) (b : 
       rw (added.1.1, drop-append_seam xs added.0) (added.1.0, added.1.2)
 
 -- ---- the nodes and the records among what is met
-
-same_tests_both : (a b : Bool) → (a ≡ true → b ≡ true) → (b ≡ true → a ≡ true) → a ≡ b
-same_tests_both true b f g = sym (f refl)
-same_tests_both false true f g = g refl
-same_tests_both false false f g = refl
 
 -- what is met in two pieces
 pub nodes_append : (n : ℕ) (xs ys : List ℕ) → nodes_met n (xs ++ ys) ≡ nodes_met n xs ++ nodes_met n ys
@@ -144,7 +140,7 @@ part_met n r p m h =
     nodes : All (λ x. x < n) new × (met_all m (map (option_map (λ x. x)) p.nodes) ≡ m ++ map (λ x. x) new)
     nodes =
         met_raised (λ x. x) (λ x y e. e) n p.nodes (nodes_met n m) m (recursion_from_All _ _ h.nodes)
-        (λ y l. same_tests_both _ _ (λ g. has_node n m y g l) (λ g. (node_has n m y g).0))
+        (λ y l. same_answer _ _ (λ g. has_node n m y g l) (λ g. (node_has n m y g).0))
 
     nodes_first : met_all m p.nodes ≡ m ++ new
     nodes_first =
@@ -164,5 +160,5 @@ part_met n r p m h =
     others =
         met_raised (λ x. n + x) (λ x y e. omega (arith, e)) r p.records (records_met n r m) (m ++ new)
         (recursion_from_All _ _ h.records)
-        (λ y l. same_tests_both _ _ (λ g. has_record n (m ++ new) r y g l) (λ g. (record_has n (m ++ new) r y g).0)
+        (λ y l. same_answer _ _ (λ g. has_record n (m ++ new) r y g l) (λ g. (record_has n (m ++ new) r y g).0)
         ∙ ap (list_any (nat_eq y)) same)

@@ -34,38 +34,17 @@ noted : {Place : Type 0} (held : Option Place) (notes : List (List ℕ)) (counts
 noted None notes counts = (counts ∷ [], refl)
 noted (Some place) notes counts = ([], sym (append-nil notes))
 
-module _ {Machine Memory Place Form : Type 0} (state : State Machine Memory Place Form) (t : ℕ)
-    (there here : Thread Place) (at_t : slice_get state.threads t ≡ Some there)
-    (as_many : length here.replies ≡ length there.replies) (as_many_notes : length here.notes ≡ length there.notes)
-  where
-    -- the thread is replaced by one that did what it did, and maybe more
-    put_same : (after : Thread Place) (more : List Bool) (more_notes : List (List ℕ))
-        → slice_get (slice_set state.threads t after) t ≡ Some here → after.replies ≡ there.replies ++ more
-        → after.notes ≡ there.notes ++ more_notes
-        → (replies_of (slice_set state.threads t after) ≡ replies_of state.threads)
-        × (notes_of (slice_set state.threads t after) ≡ notes_of state.threads)
-    put_same after more more_notes found replies notes =
-        let same : here ≡ after =
-        same_Some _ _
-        (sym found ∙ get-set_same state.threads t after (slice_get_within state.threads t there at_t)) in (
-          map-put (λ (x : Thread Place). x.replies) state.threads t after there at_t
-              (no_more there.replies more after.replies replies (rw same at as_many)),
-          map-put (λ (x : Thread Place). x.notes) state.threads t after there at_t
-              (no_more there.notes more_notes after.notes notes (rw same at as_many_notes)),
-        )
-
-    access_same : (at : Thread Place) (more_notes : List (List ℕ)) (acted : Memory × Outcome Place)
-        → at.replies ≡ there.replies → at.notes ≡ there.notes ++ more_notes
-        → slice_get (after_access state t at acted).threads t ≡ Some here
-        → (replies_of (after_access state t at acted).threads ≡ replies_of state.threads)
-        × (notes_of (after_access state t at acted).threads ≡ notes_of state.threads)
-    access_same at more_notes (memory, Goes place) replies notes found =
-        put_same (record at { place = Some place }) [] more_notes found (rw append-nil replies) notes
-    access_same at more_notes (memory, Replies reply) replies notes found =
-        put_same (record at { replies = at.replies ++ reply ∷ []; place = None }) (reply ∷ []) more_notes found
-        (rw replies refl) notes
-    access_same at more_notes (memory, Astray) replies notes found =
-        put_same at [] more_notes found (rw append-nil replies) notes
+module _ {Machine Memory Place Form : Type 0} where
+  -- an access replaces one thread by one that has maybe a reply more, and counts one step
+  access_parts : (state : State Machine Memory Place Form) (t : ℕ) (at : Thread Place)
+      (acted : Memory × Outcome Place) → (after : Thread Place) × (more : List Bool)
+      × ((after_access state t at acted).threads ≡ slice_set state.threads t after)
+      × (after.replies ≡ at.replies ++ more) × (after.notes ≡ at.notes)
+      × ((after_access state t at acted).steps ≡ state.steps + 1)
+  access_parts state t at (memory, Goes place) =
+      (record at { place = Some place }, [], refl, sym (append-nil at.replies), refl, refl)
+  access_parts state t at (memory, Replies reply) = (_, reply ∷ [], refl, refl, refl, refl)
+  access_parts state t at (memory, Astray) = (at, [], refl, sym (append-nil at.replies), refl, refl)
 
 not_astray : {X : Type 0} (astray : Option ℕ) (rest : Option X) (x : X)
     → (if is_some astray then None else rest) ≡ Some x → astray ≡ None
@@ -83,24 +62,31 @@ module _ {Machine Memory Place Form : Type 0} (rules : Rules Memory Place) (prog
       (found : slice_get next.threads t ≡ Some here) (as_many : length here.replies ≡ length there.replies)
       (as_many_notes : length here.notes ≡ length there.notes) where
     -- what the threads did is as it was
-    pub op_log_stays : (replies_of next.threads ≡ replies_of state.threads)
-        × (notes_of next.threads ≡ notes_of state.threads)
+    op_log_stays : (replies_of next.threads ≡ replies_of state.threads) × (notes_of next.threads ≡ notes_of state.threads)
     op_log_stays =
         step_parts rules program _ state next t made (λ thread is op at_op stepped_is.
         let same : thread ≡ there = same_Some _ _ (sym is ∙ at_t) in
-        let more = noted thread.place thread.notes (finished_counts state.threads) in
-        rw stepped_is
-        (access_same state t there here at_t as_many as_many_notes (at_step rules state op thread) more.0 _
-        (rw same refl) (more.1 ∙ ap (λ (x : Thread Place). x.notes ++ more.0) same) (rw stepped_is at found)))
+        let noted = noted thread.place thread.notes (finished_counts state.threads) in
+        let acted = rules.act op (place_or thread.place (rules.first op)) state.memory in
+        let parts = access_parts state t (at_step rules state op thread) acted in
+        let after = parts.0 in
+        let set : next.threads ≡ slice_set state.threads t after = rw stepped_is parts.2 in
+        let within = slice_get_within state.threads t there at_t in
+        let now : here ≡ after = same_Some _ _ (sym (rw set at found) ∙ get-set_same state.threads t after within) in
+        let replies = parts.3 ∙ ap (λ (x : Thread Place). x.replies ++ parts.1) same in
+        let notes = parts.4 ∙ noted.1 ∙ ap (λ (x : Thread Place). x.notes ++ noted.0) same in
+        rw set (
+          map-put (λ (x : Thread Place). x.replies) state.threads t after there at_t
+              (no_more there.replies parts.1 after.replies replies (rw now at as_many)),
+          map-put (λ (x : Thread Place). x.notes) state.threads t after there at_t
+              (no_more there.notes noted.0 after.notes notes (rw now at as_many_notes)),
+        ))
 
-  -- the bytes of what the threads did are as they were
-  pub same_op_log : (there here : Thread Place) → slice_get state.threads t ≡ Some there
-      → slice_get next.threads t ≡ Some here → next.astray ≡ None → length here.replies ≡ length there.replies
-      → length here.notes ≡ length there.notes → op_log_of next ≡ op_log_of state
-  same_op_log there here at_t found calm as_many as_many_notes =
-      let kept = op_log_stays there here at_t found as_many as_many_notes in
-      let astray = calm ∙ sym source_not_astray in
-      λ i. op_log_code (kept.0 i) (kept.1 i) (astray i)
+    -- and so are its bytes
+    pub same_op_log : next.astray ≡ None → op_log_of next ≡ op_log_of state
+    same_op_log calm =
+        let astray = calm ∙ sym source_not_astray in
+        λ i. op_log_code (op_log_stays.0 i) (op_log_stays.1 i) (astray i)
 
 -- ---- a step that is taken back
 
@@ -111,15 +97,6 @@ set_back xs i v x h =
     rw (set-set xs i x v, ← get_or_from_slice_get xs i v v h) (set-get_or xs i v)
 
 module _ {Machine Memory Place Form : Type 0} where
-  -- an access replaces one thread, and counts one step
-  access_parts : (state : State Machine Memory Place Form) (t : ℕ) (at : Thread Place)
-      (acted : Memory × Outcome Place)
-      → ((x : Thread Place) × ((after_access state t at acted).threads ≡ slice_set state.threads t x))
-      × ((after_access state t at acted).steps ≡ state.steps + 1)
-  access_parts state t at (memory, Goes place) = ((record at { place = Some place }, refl), refl)
-  access_parts state t at (memory, Replies reply) = ((_, refl), refl)
-  access_parts state t at (memory, Astray) = ((at, refl), refl)
-
   -- a state whose step is undone in its memory, its threads and its count
   pub taken_back : (rules : Rules Memory Place) (program : Program) (source next : State Machine Memory Place Form)
       (t : ℕ) (made : step rules program source t ≡ Some next) (thread : Thread Place) (memory : Memory)
@@ -132,6 +109,6 @@ module _ {Machine Memory Place Form : Type 0} where
       let acted = rules.act op (place_or there.place (rules.first op)) source.memory in
       let parts = access_parts source t (at_step rules source op there) acted in
       let restored : threads ≡ source.threads =
-      rw (set, is, parts.0.1) (set_back source.threads t thread parts.0.0 was) in
-      let steps : next.steps - 1 ≡ source.steps = rw (is, parts.1) (omega arith) in
+      rw (set, is, parts.2) (set_back source.threads t thread parts.0 was) in
+      let steps : next.steps - 1 ≡ source.steps = rw (is, parts.5) (omega arith) in
       rw (m, restored, steps, ← source_not_astray rules program source next t made) refl)

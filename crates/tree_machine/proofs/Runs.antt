@@ -2,7 +2,7 @@
 -- program is a history of that program.
 use Rattle.std.proofs.Common.{is_some, ◌≡◌, ℕ, zero, suc, ◌+◌, inl, inr, Bool, true, false, List, [], ◌∷◌, ◌++◌, length}
 use Rattle.std.proofs.Common.{map, Option, Some, IsSome, refl, sym, ap, ◌∙◌, arith, slice_get, get_or, if◌then◌else◌}
-use Rattle.std.proofs.Common.{◌==◌, ◌&&◌, ◌<◌, take, append_assoc, length-take-le}
+use Rattle.std.proofs.Common.{◌<◌, take, append_assoc, length-take-le}
 use Rattle.std.proofs.lemmas.Option.{slice_get_within, slice_get-get_or, get_or_from_slice_get, same_Some}
 use Rattle.std.proofs.lemmas.Bool.{eq-eqb}
 use Rattle.std.proofs.lemmas.List.{take_more, append-nil, length-map, map-append}
@@ -51,17 +51,11 @@ module _ {A : Type 0} where
       → now ≡ all_named 0 (map read (take t threads)) → next ≡ now ++ named t 0 (read thread)
       → next ≡ all_named 0 (map read (take (t + 1) threads))
   one_thread_more read threads {t} {thread} below is at_now at_next =
-      at_next ∙ ap (λ l. l ++ named t 0 (read thread)) at_now
-      ∙ sym (ap (λ l. all_named 0 (map read l))
-      (take_more threads t thread below ∙ ap (λ x. take t threads ++ x ∷ []) (sym is))
-      ∙ ap (all_named 0) (map-append read (take t threads) (thread ∷ []))
-      ∙ all_named-push 0 (map read (take t threads)) (read thread) t
-      (omega (arith, length-map (take t threads) read, length-take-le t threads (omega arith))))
+      let last = all_named-push 0 (map read (take t threads)) (read thread) t
+      (omega (arith, length-map (take t threads) read, length-take-le t threads (omega arith))) in
+      rw (at_next, at_now, take_more threads t thread below, ← is, map-append, last) refl
 
 -- ---- the history of a state
-
-both_same : (a b c d : ℕ) → a ≡ b → c ≡ d → (a == b && c == d) ≡ true
-both_same a b c d h i = let p = eq-eqb a b h in let q = eq-eqb c d i in cc
 
 module _ {A : Type 0} where
   -- what is in the list of a thread's operations
@@ -152,7 +146,7 @@ module _ {A : Type 0} where
   value_found [] k e a h thread index = cc
   value_found (x ∷ entries) zero e a h thread index =
       let same = same_Some _ _ h in
-      rw (both_same _ _ _ _ (ap (λ p. p.0.thread) same ∙ thread) (ap (λ p. p.0.index) same ∙ index)) refl
+      rw (eq-eqb _ _ (ap (λ p. p.0.thread) same ∙ thread), eq-eqb _ _ (ap (λ p. p.0.index) same ∙ index)) refl
   value_found (x ∷ entries) (suc k) e a h thread index =
       value_or_later (same_name x.0 a) x.1 (value_at entries a) (value_found entries k e a h thread index)
 

@@ -1,7 +1,7 @@
 -- Walks that write what they visit, and a graph in bytes, behind counts that were put first.
 use Rattle.std.proofs.Common.{◌≡◌, ℕ, zero, suc, ◌+◌, ◌-◌, ◌<◌, ◌≤◌, ◌⊎◌, List, [], ◌∷◌, ◌++◌, length, take, refl, sym}
-use Rattle.std.proofs.Common.{◌∙◌, ap, subst, inl, inr, arith, append_assoc, append-nil, length-append, zero-add}
-use Rattle.std.proofs.Common.{add-zero, add-suc, map, drop}
+use Rattle.std.proofs.Common.{◌∙◌, ap, subst, inl, inr, arith, append_assoc, append-nil, length-append, add-zero}
+use Rattle.std.proofs.Common.{add-suc, map, drop}
 use Rattle.std.proofs.Math.Nat.{add_comm}
 use Rattle.std.specs.Prelude.{slice_get, Some, None}
 use Rattle.std.specs.List.{All}
@@ -23,6 +23,7 @@ use Rattle.tree_machine.specs.Laws.PartCells.{node_at, record_at}
 use Rattle.tree_machine.specs.Laws.MetLists.{test_node, test_other, test_record, test_before}
 use Rattle.tree_machine.specs.Laws.SmallCodes.{small_code}
 use Rattle.tree_machine.proofs.Codings.{renamed_kept, codes_append}
+use Rattle.tree_machine.proofs.Lists.{get-append_right}
 use Rattle.tree_machine.proofs.NamesMet.{new_cells, part_met, nodes_append, records_append}
 use Rattle.tree_machine.proofs.VisitedParts.{part_below}
 use Rattle.tree_machine.proofs.Walks.{met_in_done, met_in_next}
@@ -49,13 +50,6 @@ module _ (cells : List Content) (roots : List ℕ) where
     met_in_ended v e = sym (met_in_done cells roots v (length cells) e) ∙ met_at_last v
 
 -- ---- one visit more
-
--- what is at a place behind a list
-get_behind : (xs ys : List ℕ) (k : ℕ) → slice_get (xs ++ ys) (length xs + k) ≡ slice_get ys k
-get_behind [] ys k = ap (slice_get ys) (zero-add k)
-get_behind (x ∷ xs) ys k =
-    let e : suc (length xs) + k ≡ suc (length xs + k) = omega arith in
-    ap (slice_get ((x ∷ xs) ++ ys)) e ∙ get_behind xs ys k
 
 -- a walk that visits the part at the place of its visits
 pub walk_next : (s : Parts) (roots before : List ℕ) (v : ℕ) (c : Coding) (x : ℕ) (p : Part)
@@ -138,7 +132,7 @@ module _ {s : Parts} {roots before : List ℕ} {k : ℕ} {front apart : List ℕ
         record {
           walk =
               rw (← v) (walk_next s roots before (length before + k) c x p t.walk
-              (get_behind before c.queue k ∙ at) is below);
+              (get-append_right before c.queue k x at) is below);
           written = λ end e f.
               let kept = renamed_kept p e f (met_all_has p.nodes c.nodes) (met_all_has p.records c.records) in
               rw (visited_next c p k x at)
