@@ -44,21 +44,6 @@ pub label_is : {Machine Memory Place Form : Type 0} (naming : Naming)
 label_is Own own_code form_code form_of state = refl
 label_is Canonical own_code form_code form_of state = refl
 
--- a label whose pieces were appended one behind the other
-pub label_put : {Machine Memory Place Form : Type 0} (naming : Naming)
-    (own_code : Memory → List (Option Place) → List ℕ)
-    (form_code : Form → List ℕ) (form_of : Memory → List (Option Place) → Form)
-    (state : State Machine Memory Place Form) {threads : List (Thread Place)} {steps : ℕ}
-    {none first second third lent copy : List ℕ} → threads ≡ state.threads → steps ≡ code_by naming state.steps 0
-    → none ≡ [] → first ≡ none ++ number_code steps
-    → second ≡ first ++ op_log_code (replies_of threads) (notes_of threads) state.astray
-    → third ≡ second ++ code_by naming (own_code state.memory (places_of threads))
-    (form_code (form_of state.memory (places_of threads)))
-    → lent ≡ third → copy ≡ lent → copy ≡ label_code naming own_code form_code form_of state
-label_put naming own_code form_code form_of state h k n f s t l p =
-    rw (p, l, t, s, f, n, h, k)
-    (append_assoc (number_code _) (op_log_of state) _ ∙ label_is naming own_code form_code form_of state)
-
 module _ {Memory Place : Type 0} (front_code : Front → Memory → List ℕ)
     (behind_code : Front → Memory → List (Option Place) → List ℕ) where
   abbrev cut : Front → Memory → List (Option Place) → List ℕ
@@ -105,39 +90,50 @@ module _ {Memory Place : Type 0} (front_code : Front → Memory → List ℕ)
         piece_between (number_code source.steps) (op_log_of source) _ are.written are.op_log (e ∙ are.memory)
         ∙ sym (append-nil (op_log_of source))
 
--- a state that was read from the label of another has its memory from the code in that
-pub read_from : {Machine Memory Place Form : Type 0} (rules : Rules Memory Place) (naming : Naming)
-    (own_code : Memory → List (Option Place) → List ℕ) (form_code : Form → List ℕ)
-    (form_of : Memory → List (Option Place) → Form) (cut : Memory → List (Option Place) → List ℕ)
-    (state source : State Machine Memory Place Form) (memory : Memory) → AreNumbersInRange rules state
-    → state_code cut source ≡ label_code naming own_code form_code form_of state → memory ≡ source.memory
-    → IsReadFrom rules (λ memory held. code_by naming (own_code memory held) (form_code (form_of memory held))) cut
-    memory
-read_from rules naming own_code form_code form_of cut state source memory range e same =
-    let here : FormContent (List ℕ) = record {
-      form = cut source.memory (places_of source.threads);
-      replies = replies_of source.threads;
-      notes = notes_of source.threads;
-      astray = source.astray;
-    } in
-    let there : FormContent (List ℕ) = record {
-      form = code_by naming (own_code state.memory (places_of state.threads))
-          (form_code (form_of state.memory (places_of state.threads)));
-      replies = replies_of state.threads;
-      notes = notes_of state.threads;
-      astray = state.astray;
-    } in
-    let steps =
-    number_split source.steps (code_by naming state.steps 0) (content_code (λ l. l) here) (content_code (λ l. l) there)
-    (e ∙ sym (label_is naming own_code form_code form_of state)) in
-    let stated = content_readable (λ l. l) (λ a b h. h) here there steps.1 in
-    record {
-      other = state.memory;
-      held = places_of state.threads;
-      twins = places_of source.threads;
-      in_range = range.memory;
-      places_in_range = range.places;
-      many = simp length-map (simp length-map at (ap (λ (c : FormContent (List ℕ)). length c.replies) (sym stated)));
-      same = ap (λ m. cut m (places_of source.threads)) same
-          ∙ ap (λ (c : FormContent (List ℕ)). c.form) stated;
-    }
+-- what the code of a state says behind the number of steps
+abbrev content : {Machine Memory Place Form : Type 0} → (Memory → List (Option Place) → List ℕ)
+    → State Machine Memory Place Form → FormContent (List ℕ)
+content code state = record {
+  form = code state.memory (places_of state.threads);
+  replies = replies_of state.threads;
+  notes = notes_of state.threads;
+  astray = state.astray;
+}
+
+module _ {Machine Memory Place Form : Type 0} (naming : Naming) (own_code : Memory → List (Option Place) → List ℕ)
+    (form_code : Form → List ℕ) (form_of : Memory → List (Option Place) → Form)
+    (state : State Machine Memory Place Form) where
+  -- a label whose pieces were appended one behind the other
+  pub label_put : {threads : List (Thread Place)} {steps : ℕ} {none first second third lent copy : List ℕ}
+      → threads ≡ state.threads → steps ≡ code_by naming state.steps 0 → none ≡ [] → first ≡ none ++ number_code steps
+      → second ≡ first ++ op_log_code (replies_of threads) (notes_of threads) state.astray
+      → third ≡ second ++ code_by naming (own_code state.memory (places_of threads))
+      (form_code (form_of state.memory (places_of threads)))
+      → lent ≡ third → copy ≡ lent → copy ≡ label_code naming own_code form_code form_of state
+  label_put h k n f s t l p =
+      rw (p, l, t, s, f, n, h, k)
+      (append_assoc (number_code _) (op_log_of state) _ ∙ label_is naming own_code form_code form_of state)
+
+  -- a state that was read from the label of another has its memory from the code in that
+  pub read_from : (rules : Rules Memory Place) (cut : Memory → List (Option Place) → List ℕ)
+      (source : State Machine Memory Place Form) (memory : Memory) → AreNumbersInRange rules state
+      → state_code cut source ≡ label_code naming own_code form_code form_of state → memory ≡ source.memory
+      → IsReadFrom rules (λ memory held. code_by naming (own_code memory held) (form_code (form_of memory held))) cut
+      memory
+  read_from rules cut source memory range e same =
+      let here = content cut source in
+      let there = content (λ memory held. code_by naming (own_code memory held) (form_code (form_of memory held))) state in
+      let steps =
+      number_split source.steps (code_by naming state.steps 0) (content_code (λ l. l) here)
+      (content_code (λ l. l) there) (e ∙ sym (label_is naming own_code form_code form_of state)) in
+      let stated = content_readable (λ l. l) (λ a b h. h) here there steps.1 in
+      let replies = ap (λ (c : FormContent (List ℕ)). length c.replies) (sym stated) in
+      record {
+        other = state.memory;
+        held = places_of state.threads;
+        twins = places_of source.threads;
+        in_range = range.memory;
+        places_in_range = range.places;
+        many = simp length-map (simp length-map at replies);
+        same = ap (λ m. cut m (places_of source.threads)) same ∙ ap (λ (c : FormContent (List ℕ)). c.form) stated;
+      }

@@ -58,7 +58,7 @@ module _ {Machine Memory Place Form : Type 0} (rules : Rules Memory Place) (prog
   source_not_astray =
       let whose = map_some _ (ready program state t) next made in not_astray state.astray _ whose.0 whose.1
 
-  module _ (there here : Thread Place) (at_t : slice_get state.threads t ≡ Some there)
+  module _ {there here : Thread Place} (at_t : slice_get state.threads t ≡ Some there)
       (found : slice_get next.threads t ≡ Some here) (as_many : length here.replies ≡ length there.replies)
       (as_many_notes : length here.notes ≡ length there.notes) where
     -- what the threads did is as it was
@@ -99,12 +99,12 @@ set_back xs i v x h =
 module _ {Machine Memory Place Form : Type 0} where
   -- a state whose step is undone in its memory, its threads and its count
   pub taken_back : (rules : Rules Memory Place) (program : Program) (source next : State Machine Memory Place Form)
-      (t : ℕ) (made : step rules program source t ≡ Some next) (thread : Thread Place) (memory : Memory)
-      (threads : List (Thread Place)) → slice_get source.threads t ≡ Some thread → memory ≡ source.memory
+      (t : ℕ) (made : step rules program source t ≡ Some next) {thread : Thread Place} {memory : Memory}
+      {threads : List (Thread Place)} → slice_get source.threads t ≡ Some thread → memory ≡ source.memory
       → threads ≡ slice_set next.threads t thread
       → ◌≡◌ {A = State Machine Memory Place Form}
       (record { memory = memory; threads = threads; steps = next.steps - 1; astray = None }) source
-  taken_back rules program source next t made thread memory threads was m set =
+  taken_back rules program source next t made {thread} {threads = threads} was m set =
       step_parts rules program _ source next t made (λ there at_t op at_op is.
       let acted = rules.act op (place_or there.place (rules.first op)) source.memory in
       let parts = access_parts source t (at_step rules source op there) acted in

@@ -196,10 +196,10 @@ module _ {Machine Memory Place Form : Type 0} (rules : Rules Memory Place) (prog
       (map-get (λ thread. thread.notes) state.threads at.0 thread.0 thread.1) note.1 in
       value_found (all_named 0 all_notes) there.0 there.1 e.0 there.2 (there.3 ∙ sym at.5) (there.4 ∙ sym at.6)
 
-  pub is_history : (begun : List (OpId × List ℕ)) (finished : List (OpId × Bool)) → begun ≡ all_named 0 all_notes
+  pub is_history : {begun : List (OpId × List ℕ)} {finished : List (OpId × Bool)} → begun ≡ all_named 0 all_notes
       → finished ≡ all_named 0 all_replies
       → IsHistoryOf program (record { begun = begun; finished = finished })
-  is_history begun finished b f =
+  is_history b f =
       rw (b, f) (record {
         names = λ k d within. (begun_there k _ (slice_get-get_or (all_named 0 all_notes) k d within)).0;
         notes = λ k d within. (begun_there k _ (slice_get-get_or (all_named 0 all_notes) k d within)).1;

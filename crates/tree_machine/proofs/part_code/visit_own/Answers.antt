@@ -1,6 +1,6 @@
 use Rattle.std.proofs.Common.{◌∙◌, arith}
 use Rattle.std.proofs.lemmas.Result.{on_ok_weaker}
-use Rattle.tree_machine.proofs.OwnCodings.{own_parts, own_written}
+use Rattle.tree_machine.proofs.VisitedParts.{own_parts, own_written}
 use Rattle.tree_machine.proofs.part_code.visit_own.Goals as goal
 
 pub visit_records-requires : goal.visit_records-requires

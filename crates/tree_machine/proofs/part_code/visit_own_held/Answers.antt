@@ -1,4 +1,4 @@
-use Rattle.tree_machine.proofs.OwnCodings.{own_parts}
+use Rattle.tree_machine.proofs.VisitedParts.{own_parts}
 use Rattle.tree_machine.proofs.part_code.visit_own_held.Goals as goal
 
 pub returns : goal.returns

@@ -1,6 +1,6 @@
 use Rattle.std.proofs.Common.{append_assoc, refl, sym}
 use Rattle.tree_machine.specs.Laws.Canonical.{fixed_cells}
-use Rattle.tree_machine.proofs.FrontCodes.{front_begun, front_written, nodes_are, records_are}
+use Rattle.tree_machine.proofs.Trails.{front_begun, front_written, nodes_are, records_are}
 use Rattle.tree_machine.proofs.part_code.write_canonical.Goals as goal
 
 pub visit_graph-requires : goal.visit_graph-requires

@@ -8,6 +8,5 @@ returns-in-Some-None g c more_none =
     let here : slice_get c.args.self.now.threads c.args.thread ≡ Some c.in-Some-None.here.now = search rules in
     let calm : c.args.self.now.astray ≡ None = search rules in
     let step = c.requires.step in
-    same_op_log (g.M.Machine.rules step.0) step.1 c.args.source.now.value c.args.self.now c.args.thread
-    step.2 c.args.was.now c.in-Some-None.here.now c.requires.was here (c.did_as_many.ensures.replies more_none)
-    (c.did_as_many.ensures.notes more_none) calm
+    same_op_log (g.M.Machine.rules step.0) step.1 c.args.source.now.value c.args.self.now c.args.thread step.2
+    c.requires.was here (c.did_as_many.ensures.replies more_none) (c.did_as_many.ensures.notes more_none) calm
