@@ -5,7 +5,7 @@ use Rattle.std.proofs.Common.{[], ◌∷◌, drop, refl, sym, ap, append_assoc, 
 use Rattle.std.specs.Prelude.{Option, Some, None, IfSome, slice_get, nat_eq}
 use Rattle.std.specs.List.{All, IsDistinct}
 use Rattle.std.proofs.lemmas.List.{get_or_append_left, get_or-append-add, get_or-map, length-map, drop_all, drop_more}
-use Rattle.std.proofs.lemmas.List.Elements.{All-nil, All-weaker, All-head, All-tail, recursion_from_All}
+use Rattle.std.proofs.lemmas.List.Elements.{All-nil, All-head, All-tail, recursion_from_All}
 use Rattle.std.proofs.lemmas.Option.{IfSome_then, unwrap_or-slice_get}
 use Rattle.std.specs.Option.{option_and_then}
 use Rattle.std.proofs.Math.Seq.{drop-length}
@@ -43,17 +43,13 @@ module _ (P Q : ℕ → Type 0) (refs : List (Option ℕ)) (stack : List ℕ) (f
 -- each part names nodes and records that there are, also where there may be more
 pub part_within : {n m i j : ℕ} (parts : List Part) (x : ℕ) → n ≤ i → m ≤ j → All (IsPartBelow n m) parts
     → IsPartBelow i j (part_at parts x)
-part_within {n} {m} {i} {j} parts x l k h =
-    at_all (IsPartBelow i j) parts x no_part
-    (All-weaker (IsPartBelow n m) (IsPartBelow i j)
-    (λ p b. record { nodes = more n i l p.nodes b.nodes; records = more m j k p.records b.records }) parts h)
-    (record { nodes = All-nil _; records = All-nil _ })
-  where
-    more : (n i : ℕ) → n ≤ i → (refs : List (Option ℕ)) → All (λ r. IfSome r (λ y. y < n)) refs
-        → All (λ r. IfSome r (λ y. y < i)) refs
-    more n i l refs h =
-        All-weaker (λ r. IfSome r (λ y. y < n)) (λ r. IfSome r (λ y. y < i))
-        (λ r b. IfSome_then r b (λ y g. omega arith)) refs h
+part_within {n} {m} parts x l k h =
+    let b = at_all (IsPartBelow n m) parts x no_part h (record { nodes = All-nil _; records = All-nil _ }) in
+    let p = part_at parts x in
+    record {
+      nodes = λ q d w. IfSome_then (get_or p.nodes q d) (b.nodes q d w) (λ y g. omega arith);
+      records = λ q d w. IfSome_then (get_or p.records q d) (b.records q d w) (λ y g. omega arith);
+    }
 
 -- or just as many
 pub part_below : {n m i j : ℕ} (parts : List Part) (x : ℕ) → i ≡ n → j ≡ m → All (IsPartBelow n m) parts
