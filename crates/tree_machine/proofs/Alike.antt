@@ -47,7 +47,8 @@ module _ {A : Type 0} where
   if_paired : (P : A → A → Type 0) (b c : Bool) (held twin : Option A) → b ≡ c → AreHeldPaired P held twin
       → AreHeldPaired P (if b then None else held) (if c then None else twin)
   if_paired P b c held twin h k =
-      rw h (elim c as (λ c. AreHeldPaired P (if c then None else held) (if c then None else twin)) [ true ↦ tt | false ↦ k ])
+      rw h (elim c as (λ c. AreHeldPaired P (if c then None else held) (if c then None else twin))
+      [ true ↦ tt | false ↦ k ])
 
   -- what is in two options that are paired
   held_some : (P : A → A → Type 0) (held twin : Option A) (x : A) → AreHeldPaired P held twin → held ≡ Some x

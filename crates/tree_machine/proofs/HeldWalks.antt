@@ -150,7 +150,8 @@ module _ (s : Parts) where
   abbrev held_cells : List ℕ
   held_cells = numbers_from (length (parts_graph s)) (length (parts_held s))
 
-  none_passes : (p : ℕ → Bool) → ((x : ℕ) → length s.nodes + length s.records ≤ x → p x ≡ false) → filter p held_cells ≡ []
+  none_passes : (p : ℕ → Bool) → ((x : ℕ) → length s.nodes + length s.records ≤ x → p x ≡ false)
+      → filter p held_cells ≡ []
   none_passes p h =
       filter_none p held_cells
       (recursion_from_All _ _ (numbers_all _ _ _ (λ x g l. h x (omega (arith, length-parts_graph s)))))

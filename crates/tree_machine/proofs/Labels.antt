@@ -1,13 +1,15 @@
 -- Labels, what is copied from the bytes of a state by their offsets, and states that were read from labels.
-use Rattle.std.proofs.Common.{◌≡◌, ℕ, ◌+◌, ◌-◌, ◌≤◌, Bool, true, false, List, [], ◌++◌, length, take, drop, Option}
-use Rattle.std.proofs.Common.{refl, sym, ap, ◌∙◌, arith, append_assoc, if◌then◌else◌, length-append}
+use Rattle.std.proofs.Common.{◌≡◌, ◌≤◌, ℕ, List, ◌∷◌, ◌++◌, length, map, take, refl, ◌+◌, ◌-◌, Bool, true, false, []}
+use Rattle.std.proofs.Common.{drop, Option, sym, ap, ◌∙◌, arith, append_assoc, if◌then◌else◌, length-append}
+use Rattle.std.specs.List.{flat_map}
+use Rattle.std.proofs.lemmas.List.{length-map, take_all, append-nil}
+use Rattle.std.proofs.lemmas.List.Folds.{flat_map-map}
 use Rattle.std.specs.Prelude.{IsTrue}
-use Rattle.std.proofs.lemmas.List.{append-nil, length-map}
 use Rattle.std.proofs.Math.Seq.{drop-append_seam, take-append_seam}
+use Rattle.tree_machine.specs.FormCode.{list_code, cut_code, op_log_code, label_code, content_code, state_code}
 use Rattle.tree_machine.specs.Alike.{notes_of, places_of, replies_of, FormContent}
 use Rattle.tree_machine.specs.Offsets.{AreOffsetsOf, op_log_of, IsReadFrom}
 use Rattle.tree_machine.specs.Flat.{number_code}
-use Rattle.tree_machine.specs.FormCode.{cut_code, op_log_code, label_code, content_code, state_code}
 use Rattle.tree_machine.specs.declared.state.Thread.{Thread}
 use Rattle.tree_machine.specs.declared.code_offsets.CodeOffsets.{CodeOffsets}
 use Rattle.tree_machine.specs.Naming.{code_by}
@@ -19,6 +21,15 @@ use Rattle.tree_machine.specs.InRange.{AreNumbersInRange}
 use Rattle.tree_machine.specs.Rules.{Rules}
 use Rattle.tree_machine.specs.Laws.Flat.{number_split}
 use Rattle.tree_machine.specs.Laws.FormCode.{content_readable}
+
+-- a field of each of several values
+module _ {A B : Type 0} (code : B → List ℕ) (of : A → B) where
+  -- how many values there are, and the field of each, are the list of the fields
+  pub fields_coded : (xs : List A) {i : ℕ} (before : List ℕ) {after : List ℕ}
+      → after ≡ before ++ length xs ∷ flat_map (λ x. code (of x)) (take i xs) → length xs ≤ i
+      → after ≡ before ++ list_code code (map of xs)
+  fields_coded xs {i} before put within =
+      rw (put, take_all i xs within, length-map xs of, flat_map-map code of xs) refl
 
 -- what is between two places of a list in three pieces
 piece_between : {X : Type 0} (a b c : List X) {xs : List X} {from to : ℕ} → xs ≡ a ++ (b ++ c) → from ≡ length a
@@ -122,7 +133,8 @@ module _ {Machine Memory Place Form : Type 0} (naming : Naming) (own_code : Memo
       memory
   read_from rules cut source memory range e same =
       let here = content cut source in
-      let there = content (λ memory held. code_by naming (own_code memory held) (form_code (form_of memory held))) state in
+      let there =
+      content (λ memory held. code_by naming (own_code memory held) (form_code (form_of memory held))) state in
       let steps =
       number_split source.steps (code_by naming state.steps 0) (content_code (λ l. l) here)
       (content_code (λ l. l) there) (e ∙ sym (label_is naming own_code form_code form_of state)) in

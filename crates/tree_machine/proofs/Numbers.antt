@@ -201,8 +201,7 @@ module _ (n : Numbering) where
     -- once it is at the end, the order is still one of distinct cells
     pub next_order : {after : List ℕ} → after ≡ order ++ x ∷ [] → IsOrder (length numbers) after
     next_order is =
-        subst (IsOrder (length numbers)) (sym (is ∙ met_new order x unmet))
-        (met_order (length numbers) order x known is_order)
+        rw (is ∙ met_new order x unmet) (met_order (length numbers) order x known is_order)
 
     -- of cells that there are
     pub next_known : {after : List ℕ} → after ≡ order ++ x ∷ [] → {m : ℕ} → m ≡ length numbers

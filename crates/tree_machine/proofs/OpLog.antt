@@ -1,7 +1,7 @@
 -- A step after which its thread has no reply and no note more leaves what the threads did as it was, and a step that is
 -- taken back leaves the state that it was made from.
 use Rattle.std.proofs.Common.{◌≡◌, ℕ, Bool, List, [], ◌∷◌, ◌++◌, length, map, Option, Some, None, refl, sym, ap, ◌∙◌}
-use Rattle.std.proofs.Common.{arith, slice_get, slice_set, is_some, if◌then◌else◌, length-append, ◌+◌, ◌-◌, set}
+use Rattle.std.proofs.Common.{arith, slice_get, slice_set, length-append, ◌+◌, ◌-◌, set}
 use Rattle.std.proofs.lemmas.List.{append-nil, set-get_or, set-set}
 use Rattle.std.proofs.Math.Seq.{map-set_same}
 use Rattle.std.proofs.lemmas.Option.{get_or_from_slice_get, same_Some, slice_get_within}
@@ -17,7 +17,7 @@ use Rattle.tree_machine.specs.declared.state.Thread.{Thread}
 use Rattle.tree_machine.specs.declared.state.State.{State}
 use Rattle.tree_machine.specs.Laws.Decoded.{map_some}
 use Rattle.tree_machine.proofs.Lists.{get-set_same}
-use Rattle.tree_machine.proofs.States.{step_parts}
+use Rattle.tree_machine.proofs.States.{not_astray, step_parts}
 
 module _ {X : Type 0} where
   map-put : {Y : Type 0} (f : X → Y) (xs : List X) (i : ℕ) (v x : X) → slice_get xs i ≡ Some x → f v ≡ f x
@@ -46,23 +46,19 @@ module _ {Machine Memory Place Form : Type 0} where
   access_parts state t at (memory, Replies reply) = (_, reply ∷ [], refl, refl, refl, refl)
   access_parts state t at (memory, Astray) = (at, [], refl, sym (append-nil at.replies), refl, refl)
 
-not_astray : {X : Type 0} (astray : Option ℕ) (rest : Option X) (x : X)
-    → (if is_some astray then None else rest) ≡ Some x → astray ≡ None
-not_astray None rest x h = refl
-not_astray (Some t) rest x h = cc
-
 module _ {Machine Memory Place Form : Type 0} (rules : Rules Memory Place) (program : Program)
     (state next : State Machine Memory Place Form) (t : ℕ) (made : step rules program state t ≡ Some next) where
   -- a state that has a step is not astray
   pub source_not_astray : state.astray ≡ None
   source_not_astray =
-      let whose = map_some _ (ready program state t) next made in not_astray state.astray _ whose.0 whose.1
+      let whose = map_some _ (ready program state t) next made in (not_astray state.astray _ whose.0 whose.1).0
 
   module _ {there here : Thread Place} (at_t : slice_get state.threads t ≡ Some there)
       (found : slice_get next.threads t ≡ Some here) (as_many : length here.replies ≡ length there.replies)
       (as_many_notes : length here.notes ≡ length there.notes) where
     -- what the threads did is as it was
-    op_log_stays : (replies_of next.threads ≡ replies_of state.threads) × (notes_of next.threads ≡ notes_of state.threads)
+    op_log_stays : (replies_of next.threads ≡ replies_of state.threads)
+        × (notes_of next.threads ≡ notes_of state.threads)
     op_log_stays =
         step_parts rules program _ state next t made (λ thread is op at_op stepped_is.
         let same : thread ≡ there = same_Some _ _ (sym is ∙ at_t) in

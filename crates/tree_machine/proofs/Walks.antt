@@ -34,8 +34,8 @@ met_in_done cells roots n (suc m) e =
     rw (add-suc n m, met_in_done cells roots n m e, past)
 
 -- so the walk has met all
-pub met_in_end : (cells : List Content) (roots : List ℕ) {order : List ℕ} {n : ℕ} → order ≡ met_in cells roots n → n < length cells
-    → slice_get order n ≡ None → order ≡ order_of cells roots
+pub met_in_end : (cells : List Content) (roots : List ℕ) {order : List ℕ} {n : ℕ} → order ≡ met_in cells roots n
+    → n < length cells → slice_get order n ≡ None → order ≡ order_of cells roots
 met_in_end cells roots {n = n} e l h =
     let rest : n + (length cells - n) ≡ length cells = omega arith in
     e ∙ sym (met_in_done cells roots n (length cells - n) (rw e at h)) ∙ ap (met_in cells roots) rest
@@ -46,8 +46,9 @@ pub visit_in_range : {cells : List Content} {roots order : List ℕ} (n : ℕ) {
 visit_in_range {order = order} n h e at = (met_in_order _ _ h n).below _ (rw e at (has_at order _ _ at))
 
 -- one visit more
-pub met_in_next : (cells : List Content) (roots : List ℕ) {order after : List ℕ} (n : ℕ) {x : ℕ} → order ≡ met_in cells roots n
-    → slice_get order n ≡ Some x → after ≡ met_all order (content_at cells x).refs → after ≡ met_in cells roots (n + 1)
+pub met_in_next : (cells : List Content) (roots : List ℕ) {order after : List ℕ} (n : ℕ) {x : ℕ}
+    → order ≡ met_in cells roots n → slice_get order n ≡ Some x → after ≡ met_all order (content_at cells x).refs
+    → after ≡ met_in cells roots (n + 1)
 met_in_next cells roots n e at h = rw (add-one n, ← e, at) h
 
 -- the content of a cell is what is at its number
@@ -56,9 +57,9 @@ pub content_is : (cells : List Content) (x : ℕ) (c : Content) → x < length c
 content_is cells x c l e = rw (slice_get-get_or cells x c l) (sym e)
 
 -- the step of a loop that renames cells
-pub rename_next : (cells : List Content) {done after : List Content} {order seen : List ℕ} {i : ℕ} {c r : Content} → All (λ x. x < length cells) order → seen ≡ order → i < length seen → c ≡ get_or cells (get_or seen i 0) c
-    → r ≡ renamed order c →
-    done ≡ map (λ x. renamed order (content_at cells x)) (take i order) → after ≡ done ++ r ∷ []
+pub rename_next : (cells : List Content) {done after : List Content} {order seen : List ℕ} {i : ℕ} {c r : Content}
+    → All (λ x. x < length cells) order → seen ≡ order → i < length seen → c ≡ get_or cells (get_or seen i 0) c
+    → r ≡ renamed order c → done ≡ map (λ x. renamed order (content_at cells x)) (take i order) → after ≡ done ++ r ∷ []
     → after ≡ map (λ x. renamed order (content_at cells x)) (take (i + 1) order)
 rename_next cells {order = order} {i = i} {c = c} range see l e f h g =
     let within : i < length order = omega (arith, ap length see) in

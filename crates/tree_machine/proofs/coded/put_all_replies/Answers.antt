@@ -1,6 +1,6 @@
 use Rattle.std.proofs.Common.{arith}
 use Rattle.tree_machine.specs.FormCode.{replies_code}
-use Rattle.tree_machine.proofs.Fields.{fields_coded}
+use Rattle.tree_machine.proofs.Labels.{fields_coded}
 use Rattle.tree_machine.proofs.coded.put_all_replies.Goals as goal
 
 pub returns-clause-put : goal.returns-clause-put

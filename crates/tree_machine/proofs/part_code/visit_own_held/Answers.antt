@@ -4,4 +4,5 @@ use Rattle.tree_machine.proofs.part_code.visit_own_held.Goals as goal
 pub returns : goal.returns
 returns g c =
     let held = own_parts c.requires.own _ c.requires.in_range.1.held in
-    record { coder = rw held.0 at c.visit_all_held.ensures.coder; written = rw held.1 at c.visit_all_held.ensures.written }
+    let visited = c.visit_all_held.ensures in
+    record { coder = rw held.0 at visited.coder; written = rw held.1 at visited.written }
