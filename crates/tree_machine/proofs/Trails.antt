@@ -106,15 +106,6 @@ pub trail_begun : {s : Parts} {roots before : List ℕ} {c : Coding} {bytes out 
 trail_begun {bytes = bytes} {out = out} w =
     record { walk = rw add-zero w; written = λ end e f. (sym (append-nil bytes), sym (append-nil out)) }
 
--- more cells behind them
-more_written : (s : Parts) (front apart cells bytes out some more then : List ℕ) (end : Coding)
-    → AreWritten s front apart cells bytes out end → AreWritten s bytes out some more then end
-    → AreWritten s front apart (cells ++ some) more then end
-more_written s front apart cells bytes out some more then end old new = (
-  rw (new.0, old.0) (simp (filter-append, map-append, flat_map-append, append_assoc)),
-  rw (new.1, old.1) (simp (filter-append, map-append, flat_map-append, append_assoc)),
-)
-
 -- the visited cells of a queue, once the next one is visited
 visited_next : (c : Coding) (p : Part) (k x : ℕ) → slice_get c.queue k ≡ Some x
     → take (k + 1) (with_part c p).queue ≡ take k c.queue ++ x ∷ []
@@ -143,11 +134,13 @@ module _ {s : Parts} {roots before : List ℕ} {k : ℕ} {front apart : List ℕ
               (get-append_right before c.queue k x at) is below);
           written = λ end e f.
               let kept = renamed_kept p e f (met_all_has p.nodes c.nodes) (met_all_has p.records c.records) in
-              rw (visited_next c p k x at)
-              (more_written s front apart (take k c.queue) bytes out (x ∷ []) put then end
-              (t.written end (extends_more (met_all_extends p.nodes c.nodes) e)
-              (extends_more (met_all_extends p.records c.records) f))
-              (written end (ap (λ q. cell_code (part_content q)) (sym kept) ∙ sym (append-nil _))));
+              let old = t.written end (extends_more (met_all_extends p.nodes c.nodes) e)
+              (extends_more (met_all_extends p.records c.records) f) in
+              let new = written end (ap (λ q. cell_code (part_content q)) (sym kept) ∙ sym (append-nil _)) in
+              rw (visited_next c p k x at) (
+                rw (new.0, old.0) (simp (filter-append, map-append, flat_map-append, append_assoc)),
+                rw (new.1, old.1) (simp (filter-append, map-append, flat_map-append, append_assoc)),
+              );
         }
 
     -- a node is written behind the others, and a record apart

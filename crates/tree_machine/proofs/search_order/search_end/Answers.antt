@@ -1,5 +1,5 @@
 use Rattle.std.proofs.Common.{rules, ◌≡◌, suc, ◌-◌, sym, ◌∙◌, arith}
-use Rattle.std.specs.Prelude.{Some, None}
+use Rattle.std.specs.Prelude.{Some}
 use Rattle.tree_machine.specs.Laws.SearchOrder.{end_at_none, end_at_leaf, end_below}
 use Rattle.tree_machine.specs.declared.search_order.Shape.TheVariants.{Leaf, Internal}
 use Rattle.tree_machine.proofs.search_order.search_end.Goals as goal
@@ -21,8 +21,8 @@ returns-in-Some-Leaf g c =
 
 pub returns-in-None : goal.returns-in-None
 returns-in-None g c =
-    let is : g.S.Shapes.shapes c.args.memory.now c.loop-level.leaf ≡ None = search rules in
-    sym (end_at_none _ c.args.key (c.args.levels - c.loop-level._level) c.loop-level.parent c.loop-level.leaf is)
+    sym (end_at_none (g.S.Shapes.shapes c.args.memory.now) c.args.key (c.args.levels - c.loop-level._level)
+    c.loop-level.parent c.loop-level.leaf (search rules))
     ∙ c.loop-level.invariant (c.args.levels - c.loop-level._level) (omega arith)
 
 pub returns : goal.returns
