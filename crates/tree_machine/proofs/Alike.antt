@@ -1,8 +1,9 @@
 -- Alike states: the same threads of theirs have steps, their steps are alike, and so are their findings.
-use Rattle.std.proofs.Common.{◌≡◌, ℕ, List, [], ◌∷◌, ◌++◌, length, map, Bool, Option, Some, None, is_some, refl, sym}
-use Rattle.std.proofs.Common.{ap, ◌∙◌, slice_get, ◌↔◌}
+use Rattle.std.proofs.Common.{◌≡◌, ℕ, List, [], ◌∷◌, ◌++◌, length, Bool, Option, Some, None, is_some, refl, sym, ap}
+use Rattle.std.proofs.Common.{◌∙◌, slice_get, ◌↔◌, zero, suc, if◌then◌else◌, true, false, option_and_then, slice_set}
 use Rattle.std.specs.Prelude.{IsTrue, IsSomeAnd}
 use Rattle.std.specs.List.{AllZip}
+use Rattle.std.specs.Option.{option_map}
 use Rattle.sched_program.specs.Program.{Program}
 use Rattle.sched_program.specs.declared.operation.Op.{Op}
 use Rattle.tree_machine.specs.Alike.{places_of, replies_of, notes_of, AreStatesAlike}
@@ -18,11 +19,64 @@ use Rattle.tree_machine.specs.declared.state.State.{State}
 use Rattle.tree_machine.specs.Laws.Cells.{AllZip-weaker, map_paired as same_maps}
 use Rattle.tree_machine.specs.Laws.Decoded.{held_are_some}
 use Rattle.tree_machine.specs.Laws.MetLists.{map_zip}
-use Rattle.tree_machine.proofs.Pairs.{held_weaker, zip_set, zip_get, if_paired, held_some, held_some_and}
-use Rattle.tree_machine.proofs.Pairs.{held_same, then_paired, map_paired}
 
-cons_same : {A : Type 0} (x y : A) (xs ys : List A) → x ∷ xs ≡ y ∷ ys → (x ≡ y) × (xs ≡ ys)
-cons_same x y xs ys h = ((cc), (cc))
+-- ---- options and lists whose values are paired
+
+module _ {A : Type 0} where
+  held_weaker : (P Q : A → A → Type 0) → ((x y : A) → P x y → Q x y) → (held twin : Option A)
+      → AreHeldPaired P held twin → AreHeldPaired Q held twin
+  held_weaker P Q h None None k = tt
+  held_weaker P Q h (Some x) (Some y) k = h x y k
+  held_weaker P Q h _ _ k = absurd k
+
+  zip_set : (P : A → A → Type 0) (xs ys : List A) (t : ℕ) (a b : A) → AllZip P xs ys → P a b
+      → AllZip P (slice_set xs t a) (slice_set ys t b)
+  zip_set P [] [] t a b z p = tt
+  zip_set P (x ∷ xs) (y ∷ ys) zero a b z p = (p, z.1)
+  zip_set P (x ∷ xs) (y ∷ ys) (suc t) a b z p = (z.0, zip_set P xs ys t a b z.1 p)
+  zip_set P _ _ t a b z p = absurd z
+
+  -- two paired lists have paired elements, or none in both
+  zip_get : (P : A → A → Type 0) (xs ys : List A) (t : ℕ) → AllZip P xs ys
+      → AreHeldPaired P (slice_get xs t) (slice_get ys t)
+  zip_get P [] [] t z = tt
+  zip_get P (x ∷ xs) (y ∷ ys) zero z = z.0
+  zip_get P (x ∷ xs) (y ∷ ys) (suc t) z = zip_get P xs ys t z.1
+  zip_get P _ _ t z = absurd z
+
+  if_paired : (P : A → A → Type 0) (b c : Bool) (held twin : Option A) → b ≡ c → AreHeldPaired P held twin
+      → AreHeldPaired P (if b then None else held) (if c then None else twin)
+  if_paired P b c held twin h k =
+      rw h (elim c as (λ c. AreHeldPaired P (if c then None else held) (if c then None else twin))
+      [ true ↦ tt | false ↦ k ])
+
+  -- what is in two options that are paired
+  held_some : (P : A → A → Type 0) (held twin : Option A) (x : A) → AreHeldPaired P held twin → held ≡ Some x
+      → (y : A) × (twin ≡ Some y) × P x y
+  held_some P None None x k h = cc
+  held_some P (Some a) (Some y) x k h = let same : a ≡ x = (cc) in (y, refl, rw same at k)
+  held_some P _ _ x k h = absurd k
+
+module _ {A B : Type 0} (Q : B → B → Type 0) where
+  then_paired : (P : A → A → Type 0) (f g : A → Option B) → ((x y : A) → P x y → AreHeldPaired Q (f x) (g y))
+      → (held twin : Option A)
+      → AreHeldPaired P held twin → AreHeldPaired Q (option_and_then f held) (option_and_then g twin)
+  then_paired P f g h None None k = tt
+  then_paired P f g h (Some x) (Some y) k = h x y k
+  then_paired P f g h _ _ k = absurd k
+
+  same_paired : (f g : A → B) → ((x : A) → Q (f x) (g x)) → (held : Option A)
+      → AreHeldPaired Q (option_map f held) (option_map g held)
+  same_paired f g h None = tt
+  same_paired f g h (Some x) = h x
+
+  map_paired : (P : A → A → Type 0) (f g : A → B) → ((x y : A) → P x y → Q (f x) (g y)) → (held twin : Option A)
+      → AreHeldPaired P held twin → AreHeldPaired Q (option_map f held) (option_map g twin)
+  map_paired P f g h None None k = tt
+  map_paired P f g h (Some x) (Some y) k = h x y k
+  map_paired P f g h _ _ k = absurd k
+
+-- ---- threads
 
 module _ {Place : Type 0} where
   -- two threads hold paired places, or both none, and did the same
@@ -41,9 +95,7 @@ module _ {Place : Type 0} where
       → replies_of xs ≡ replies_of ys → notes_of xs ≡ notes_of ys → AllZip (AreThreadsPaired P) xs ys
   threads_zip P [] [] z r n = tt
   threads_zip P (x ∷ xs) (y ∷ ys) z r n =
-      let replies = cons_same x.replies y.replies (replies_of xs) (replies_of ys) r in
-      let notes = cons_same x.notes y.notes (notes_of xs) (notes_of ys) n in
-      (record { place = z.0; replies = replies.0; notes = notes.0 }, threads_zip P xs ys z.1 replies.1 notes.1)
+      (record { place = z.0; replies = (cc); notes = (cc) }, threads_zip P xs ys z.1 (cc) (cc))
   threads_zip P _ _ z r n = absurd z
 
   zip_places : (P : Place → Place → Type 0) (xs ys : List (Thread Place)) → AllZip (AreThreadsPaired P) xs ys
@@ -51,14 +103,9 @@ module _ {Place : Type 0} where
   zip_places P xs ys z =
       map_zip (AreHeldPaired P) (λ x. x.place) (λ x. x.place) xs ys (AllZip-weaker _ _ (λ x y k. k.place) xs ys z)
 
-  zip_read : {A : Type 0} (read : Thread Place → A) (P : Place → Place → Type 0)
-      → ((x y : Thread Place) → AreThreadsPaired P x y → read x ≡ read y)
-      → (xs ys : List (Thread Place)) → AllZip (AreThreadsPaired P) xs ys → map read xs ≡ map read ys
-  zip_read read P h xs ys z = same_maps (AreThreadsPaired P) read read h xs ys z
-
   zip_counts : (P : Place → Place → Type 0) (xs ys : List (Thread Place)) → AllZip (AreThreadsPaired P) xs ys
       → finished_counts xs ≡ finished_counts ys
-  zip_counts P xs ys z = zip_read (λ x. length x.replies) P (λ x y k. ap length k.replies) xs ys z
+  zip_counts P xs ys z = same_maps (AreThreadsPaired P) _ _ (λ x y k. ap length k.replies) xs ys z
 
   place_or_paired : (P : Place → Place → Type 0) (held twin : Option Place) (first : Place) → P first first
       → AreHeldPaired P held twin → P (place_or held first) (place_or twin first)
@@ -82,8 +129,8 @@ module _ {Machine Memory Place Form : Type 0} (rules : Rules Memory Place) where
       (record { memory = twin; threads = ys; steps = m; astray = astray })
   from_threads p memory twin xs ys n m astray h z = record {
     paired = (p, h, zip_places _ xs ys z);
-    replies = zip_read (λ thread. thread.replies) _ (λ x y k. k.replies) xs ys z;
-    notes = zip_read (λ thread. thread.notes) _ (λ x y k. k.notes) xs ys z;
+    replies = same_maps (AreThreadsPaired _) _ _ (λ x y k. k.replies) xs ys z;
+    notes = same_maps (AreThreadsPaired _) _ _ (λ x y k. k.notes) xs ys z;
     astray = refl;
   }
 
@@ -153,16 +200,15 @@ module _ {Machine Memory Place Form : Type 0} (rules : Rules Memory Place) where
     ready_alike alike program t =
         if_paired _ (is_some state.astray) (is_some twin.astray) _ _ (ap is_some alike.astray)
         (then_paired _ (AreThreadsPaired (rules.pairs.places alike.paired.0)) _ _
-        (λ thread other k. map_paired _ (λ op same. op ≡ same) (λ op. (thread, op)) (λ op. (other, op))
-        (λ op same is. (k, is)) (next_op program (finished_counts state.threads) t thread)
-        (next_op program (finished_counts twin.threads) t other)
-        (held_same _ _
-        (next_same _ program t _ _ thread other (zip_counts _ _ twin.threads (threads_paired alike)) k)))
+        (λ thread other k. rw (next_same _ program t _ _ thread other
+        (zip_counts _ state.threads twin.threads (threads_paired alike)) k)
+        (same_paired _ (λ op. (thread, op)) (λ op. (other, op)) (λ op. (k, refl))
+        (next_op program (finished_counts twin.threads) t other)))
         (slice_get state.threads t) (slice_get twin.threads t)
         (zip_get _ state.threads twin.threads t (threads_paired alike)))
 
     -- in alike states the threads that have steps are the same, and the states behind these are alike
-    pub alike_steps : AreLawful rules → AreStatesAlike rules state twin → (program : Program) (t : ℕ)
+    alike_steps : AreLawful rules → AreStatesAlike rules state twin → (program : Program) (t : ℕ)
         → AreHeldPaired (AreStatesAlike rules) (step rules program state t) (step rules program twin t)
     alike_steps lawful alike program t =
         map_paired (AreStatesAlike rules)
@@ -184,21 +230,14 @@ module _ {Machine Memory Place Form : Type 0} (rules : Rules Memory Place) where
         → (program : Program) (t : ℕ) (next : State Machine Memory Place Form) → step rules program state t ≡ Some next
         → IsSomeAnd (step rules program twin t) (AreStatesAlike rules next)
     alike_next lawful alike program t next h =
-        held_some_and _ (step rules program state t) (step rules program twin t) next
-        (alike_steps lawful alike program t) h
+        let other = alike_step lawful alike program t next h in rw other.1 other.2
 
     -- in alike states the enabled threads are the same
-    pub alike_enabled : AreStatesAlike rules state twin → (program : Program) (t : ℕ) → IsEnabled program state t
-        ↔ IsEnabled program twin t
-    alike_enabled alike program t =
-        let same = held_are_some _ (ready program state t) (ready program twin t) (ready_alike alike program t) in
-        ((λ enabled. sym same ∙ enabled), (λ enabled. same ∙ enabled))
-
     pub enabled_alike : AreStatesAlike rules state twin → (program : Program) (t : ℕ) (stated : Bool)
         → (IsTrue stated ↔ IsEnabled program state t) → IsTrue stated ↔ IsEnabled program twin t
     enabled_alike alike program t stated is =
-        let same = alike_enabled alike program t in
-        ((λ h. same.0 (is.0 h)), (λ enabled. is.1 (same.1 enabled)))
+        let same = held_are_some _ (ready program state t) (ready program twin t) (ready_alike alike program t) in
+        ((λ h. sym same ∙ is.0 h), (λ enabled. is.1 (same ∙ enabled)))
 
     pub alike_history : AreStatesAlike rules state twin → history_of state ≡ history_of twin
     alike_history alike = rw (alike.notes, alike.replies) refl

@@ -1,28 +1,23 @@
 -- Pairs of places in two lists: values that are written or appended on both sides keep them.
+use Rattle.std.proofs.Common.{arith, sym, ◌∙◌, inl, inr, length-append, length-set, add-zero}
 use Rattle.std.specs.Prelude.{◌≡◌, ℕ, ◌<◌, Bool, true, false, cond, nat_eq, List, [], ◌∷◌, ◌++◌, length, slice_get}
 use Rattle.std.specs.Prelude.{slice_set, Option, Some, refl}
-use Rattle.std.proofs.Common.{arith, sym, ◌∙◌, inl, inr, length-append, length-set}
 use Rattle.std.proofs.lemmas.Bool.Decides.{eqb_tells}
-use Rattle.tree_machine.proofs.Lists.{get_at, get-append_left, get-set_same, get-set_other}
 use Rattle.tree_machine.specs.Pairing.{IsAmong, IsOneToOne}
+use Rattle.tree_machine.specs.Laws.CellSteps.{same_tests}
+use Rattle.tree_machine.proofs.Lists.{get_at, get-append_left, get-append_right, get-set_same, get-set_other}
 
 -- ---- numbers that are paired one to one
 
 -- two numbers are the same exactly if those paired with them are
 pub same_number : (P : ℕ → ℕ → Type 0) → IsOneToOne P → (x y a b : ℕ) → P x y → P a b → nat_eq x a ≡ nat_eq y b
-same_number P one x y a b p q =
-    elim (eqb_tells x a) [
-      | inl e ↦ elim (eqb_tells y b) [ inl f ↦ e.0 ∙ sym f.0 | inr f ↦ absurd (f.1 ((one x y a b p q).0 e.1)) ]
-      | inr e ↦ elim (eqb_tells y b) [ inl f ↦ absurd (e.1 ((one x y a b p q).1 f.1)) | inr f ↦ e.0 ∙ sym f.0 ]
-    ]
+same_number P one x y a b p q = same_tests x y a b (one x y a b p q)
 
 -- of paired values, equal tests choose paired ones
 pub choices_paired : {A : Type 0} (R : A → A → Type 0) (b c : Bool) (x y u v : A) → b ≡ c → R x u → R y v
     → R (cond b x y) (cond c u v)
-choices_paired R true true x y u v e h k = h
-choices_paired R false false x y u v e h k = k
-choices_paired R true false x y u v e h k = cc
-choices_paired R false true x y u v e h k = cc
+choices_paired R b c x y u v e h k =
+    rw e (elim c as (λ c. R (cond c x y) (cond c u v)) [ true ↦ h | false ↦ k ])
 
 abbrev pub AreWithin : {A : Type 0} → (ℕ → ℕ → Type 0) → List A → List A → Type 0
 AreWithin P xs ys = (x y : ℕ) → P x y → (x < length xs) × (y < length ys)
@@ -66,8 +61,7 @@ get_front : {A : Type 0} (xs more : List A) (x : ℕ) → x < length xs → slic
 get_front xs more x below = let t = get_at xs x below in get-append_left xs more x t.0 t.1 ∙ sym t.1
 
 get_last : {A : Type 0} (xs : List A) (a : A) → slice_get (xs ++ a ∷ []) (length xs) ≡ Some a
-get_last [] a = refl
-get_last (b ∷ xs) a = get_last xs a
+get_last xs a = rw add-zero at (get-append_right xs (a ∷ []) 0 a refl)
 
 module _ {A : Type 0} (pairs : List (ℕ × ℕ)) (xs ys : List A) (within : AreWithin (IsAmong pairs) xs ys) where
   -- the pair of the next places

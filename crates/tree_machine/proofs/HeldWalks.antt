@@ -1,32 +1,34 @@
 -- A walk from what the threads hold, behind a front: they are written, and what only they lead to is left.
-use Rattle.std.proofs.Common.{◌≡◌, ℕ, suc, ◌+◌, ◌<◌, List, [], ◌∷◌, ◌++◌, map, length, take, drop}
-use Rattle.std.proofs.Common.{refl, sym, ◌∙◌, ap, arith, append_assoc, append-nil, length-append, add-zero}
-use Rattle.std.specs.Prelude.{slice_get, Some, None, Result, Ok, Err, OnOk}
-use Rattle.std.proofs.Math.Seq.{drop-append_seam, take-append_seam}
+use Rattle.std.proofs.Common.{◌≡◌, ℕ, suc, ◌+◌, ◌<◌, List, [], ◌∷◌, ◌++◌, map, length, take, drop, refl, sym, ◌∙◌, ap}
+use Rattle.std.proofs.Common.{arith, append_assoc, append-nil, length-append, add-zero, zero, ◌≤◌, subst, inl, inr}
+use Rattle.std.proofs.Common.{add-one, ◌-◌, Bool, false}
+use Rattle.std.specs.Prelude.{slice_get, Some, None, Result, Ok, Err, OnOk, Option}
+use Rattle.std.proofs.Math.Seq.{drop-append_seam, take-append_seam, drop-length}
 use Rattle.std.proofs.lemmas.List.{length-map, map-append, nil_from_length}
-use Rattle.std.proofs.lemmas.List.Elements.{All-nil}
+use Rattle.std.proofs.lemmas.List.Elements.{All-nil, recursion_from_All}
 use Rattle.std.proofs.lemmas.Option.{slice_get_past}
-use Rattle.tree_machine.specs.Canonical.{as_cells, nodes_met, records_met, renamed_part}
-use Rattle.tree_machine.specs.Canonical.{canonical_parts, canonical_front, front_nodes, front_records}
-use Rattle.tree_machine.specs.Cells.{Content, IsRooted, content_at, met_in, order_of}
+use Rattle.std.specs.List.{filter}
+use Rattle.tree_machine.specs.Canonical.{as_cells, nodes_met, records_met, renamed_part, canonical_parts}
+use Rattle.tree_machine.specs.Canonical.{canonical_front, front_nodes, front_records}
+use Rattle.tree_machine.specs.Cells.{Content, IsRooted, content_at, met_in, order_of, met_all}
 use Rattle.tree_machine.specs.Coding.{Coding, IsWalk, coded_parts, with_part, with_parts, nodes_by, records_by}
 use Rattle.tree_machine.specs.Flat.{behind_code, graph_code, left_code}
 use Rattle.tree_machine.specs.Graphs.{numbers_from}
 use Rattle.tree_machine.specs.Parts.{Part, Parts, part_at, part_cell, parts_graph, parts_held, ArePartsInRange}
 use Rattle.tree_machine.specs.Parts.{IsPartBelow}
 use Rattle.tree_machine.specs.Laws.Canonical.{front_met, front_roots}
-use Rattle.tree_machine.specs.Laws.CellOrder.{Extends, get_append}
+use Rattle.tree_machine.specs.Laws.CellOrder.{Extends, get_append, HasAll, all_has}
 use Rattle.tree_machine.specs.Laws.Graphs.{length-numbers_from}
-use Rattle.tree_machine.specs.Laws.MetLists.{nodes_first, number_at, records_first}
-use Rattle.tree_machine.specs.Laws.PartCells.{held_at}
-use Rattle.tree_machine.specs.Laws.PartsBy.{AreMet}
-use Rattle.tree_machine.proofs.Codings.{met_newly, nodes_extend, records_extend, parts_written}
-use Rattle.tree_machine.proofs.FrontVisits.{front_walked}
-use Rattle.tree_machine.proofs.Lists.{get-append_right}
+use Rattle.tree_machine.specs.Laws.MetLists.{nodes_first, number_at, records_first, filter_none, test_other}
+use Rattle.tree_machine.specs.Laws.MetLists.{test_behind}
+use Rattle.tree_machine.specs.Laws.PartCells.{held_at, node_at, record_at, length-parts_graph}
+use Rattle.tree_machine.specs.Laws.PartsBy.{AreMet, IsPartMet}
+use Rattle.tree_machine.specs.Laws.CellPlaces.{has_at}
+use Rattle.tree_machine.specs.Laws.CellLists.{numbers_all}
+use Rattle.tree_machine.proofs.Codings.{met_newly, nodes_extend, records_extend, parts_written, left_some, met_old}
+use Rattle.tree_machine.proofs.Lists.{get-append_right, get_at, get-append_cases, get-map}
 use Rattle.tree_machine.proofs.NamesMet.{nodes_append, records_append, nodes_extend as met_nodes_extend}
 use Rattle.tree_machine.proofs.NamesMet.{records_extend as met_records_extend}
-use Rattle.tree_machine.proofs.PartsWritten.{left_some}
-use Rattle.tree_machine.proofs.Queued.{held_no_nodes, held_no_records}
 use Rattle.tree_machine.proofs.Trails.{met_in_ended, met_in_within, walk_next}
 use Rattle.tree_machine.proofs.VisitedParts.{part_below}
 
@@ -47,6 +49,61 @@ pub record HasFront (fixed : ℕ) (s : Parts) (c : Coding) : Type 0 where
   pub records_below : length s.records ≡ c.records_below
   pub nodes : c.nodes ≡ front_nodes fixed s
   pub records : c.records ≡ front_records fixed s
+
+-- ---- the visits of a front: what it names has numbers, so they change nothing
+
+-- what is met is not met again
+met_all_old : (refs : List (Option ℕ)) (order : List ℕ) → HasAll order refs → met_all order refs ≡ order
+met_all_old [] order h = refl
+met_all_old (None ∷ refs) order h = met_all_old refs order h
+met_all_old (Some x ∷ refs) order h =
+    ap (λ o. met_all o refs) (met_old order x h.0) ∙ met_all_old refs order h.1
+
+-- names that have numbers get no others
+names_old : (c : Coding) (p : Part) → IsPartMet c.nodes c.records p → with_part c p ≡ c
+names_old c p h =
+    rw (met_all_old p.nodes c.nodes h.0, met_all_old p.records c.records h.1) (simp (drop-length, append-nil))
+
+module _ {fixed : ℕ} (s : Parts) (range : ArePartsInRange fixed s) (c : Coding)
+    (met : AreMet fixed s c.nodes c.records) (more : List ℕ) where
+  abbrev front : List ℕ
+  front = as_cells (length s.nodes) c.nodes c.records
+
+  -- a cell of the front is a node or a record, and what it names has numbers
+  front_part : (k x : ℕ) → slice_get front k ≡ Some x → (p : Part)
+      × (content_at (parts_graph s ++ parts_held s) x ≡ part_cell (length s.nodes) p)
+      × IsPartBelow (length s.nodes) (length s.records) p × IsPartMet c.nodes c.records p
+  front_part k x at =
+      elim (get-append_cases c.nodes (map (λ y. length s.nodes + y) c.records) k x at) [
+        | inl e ↦
+            let has = has_at c.nodes k x e in (
+              part_at s.nodes x,
+              node_at s x (all_has _ c.nodes met.nodes_below x has),
+              part_below s.nodes x refl refl range.nodes,
+              met.nodes_closed x has,
+            )
+        | inr e ↦
+            let y = get-map (λ y. length s.nodes + y) c.records e.0 x e.2 in
+            let has = has_at c.records e.0 y.0 y.1 in (
+              part_at s.records y.0,
+              ap (content_at (parts_graph s ++ parts_held s)) y.2
+                  ∙ record_at s y.0 (all_has _ c.records met.records_below y.0 has),
+              part_below s.records y.0 refl refl range.records,
+              met.records_closed y.0 has,
+            )
+      ]
+
+  -- the visits of the front change nothing
+  front_walked : IsWalk s (front ++ more) (front ++ more) 0 c → (k : ℕ) → k ≤ length front
+      → IsWalk s (front ++ more) (front ++ more) k c
+  front_walked w zero l = w
+  front_walked w (suc k) l =
+      let x = get_at front k (omega arith) in
+      let p = front_part k x.0 x.1 in
+      rw (← add-one k)
+      (subst (IsWalk s (front ++ more) (front ++ more) (k + 1)) (names_old c p.0 p.3)
+      (walk_next s (front ++ more) (front ++ more) k c x.0 p.0 (front_walked w k (omega arith))
+      (get_append (front ++ more) c.queue k x.0 (get_append front more k x.0 x.1)) p.1 p.2))
 
 -- ---- parts that are visited one behind the other
 
@@ -87,6 +144,23 @@ module _ (s : Parts) (roots : List ℕ) where
       here.3))
 
 -- ---- behind a front
+
+-- what threads hold is no node and no record
+module _ (s : Parts) where
+  abbrev held_cells : List ℕ
+  held_cells = numbers_from (length (parts_graph s)) (length (parts_held s))
+
+  none_passes : (p : ℕ → Bool) → ((x : ℕ) → length s.nodes + length s.records ≤ x → p x ≡ false)
+      → filter p held_cells ≡ []
+  none_passes p h =
+      filter_none p held_cells
+      (recursion_from_All _ _ (numbers_all _ _ _ (λ x g l. h x (omega (arith, length-parts_graph s)))))
+
+  held_no_nodes : nodes_met (length s.nodes) held_cells ≡ []
+  held_no_nodes = none_passes _ (λ x l. test_other (length s.nodes) x (omega arith))
+
+  held_no_records : records_met (length s.nodes) (length s.records) held_cells ≡ []
+  held_no_records = ap (map (λ x. x - length s.nodes)) (none_passes _ (test_behind (length s.nodes) (length s.records)))
 
 -- what is left of parts behind those in front
 parts_left : (f : ℕ → Part) (xs ys zs : List ℕ) → zs ≡ xs ++ ys → drop (length xs) (map f zs) ≡ map f ys

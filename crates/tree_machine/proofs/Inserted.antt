@@ -1,14 +1,11 @@
 -- A key is inserted into a list of nodes: behind them come a leaf for the key and an internal node over it, which takes
 -- the place of the leaf where the search for the key ends.
-use Rattle.std.specs.Prelude.{◌≡◌, ◌≢◌, ℕ, suc, ◌+◌, ◌<◌, ◌≤◌, min, max, if◌then◌else◌, nat_lt}
-use Rattle.std.specs.Prelude.{List, ◌++◌, length, refl, Option, Some, unwrap_or, slice_get, slice_set}
-use Rattle.std.specs.Option.{option_map}
 use Rattle.std.proofs.Common.{arith, sym, ◌∙◌, ap, ◌⊎◌, inl, inr}
-use Rattle.std.proofs.lemmas.Bool.{le-leb, lt-leb}
-use Rattle.std.proofs.lemmas.Bool.Decides.{leb_tells}
+use Rattle.std.specs.Prelude.{◌≡◌, ◌≢◌, ℕ, ◌+◌, ◌<◌, ◌≤◌, min, max, if◌then◌else◌, nat_lt, List, ◌++◌, length, refl}
+use Rattle.std.specs.Prelude.{Option, Some, unwrap_or, slice_get, slice_set}
+use Rattle.std.specs.Option.{option_map}
+use Rattle.std.proofs.lemmas.Bool.{cases_lt}
 use Rattle.std.proofs.lemmas.Option.{slice_get_within}
-use Rattle.tree_machine.proofs.Lists.{slice_get-set, get-set_same, get-set_other, get-append_left, get-append_right}
-use Rattle.tree_machine.proofs.Lists.{get-append_cases}
 use Rattle.tree_machine.specs.declared.search_order.End.{End}
 use Rattle.tree_machine.specs.declared.search_order.Shape.{Shape}
 use Rattle.tree_machine.specs.declared.search_order.Shape.TheVariants.{Leaf, Internal}
@@ -18,6 +15,9 @@ use Rattle.tree_machine.specs.SearchOrder.{side_of, IsOrderedWithin}
 use Rattle.tree_machine.specs.Laws.Decoded.{map_some}
 use Rattle.tree_machine.specs.Laws.InitialKeys.{IsPutIn}
 use Rattle.tree_machine.specs.Laws.SearchOrder.{of_node}
+use Rattle.tree_machine.specs.Laws.MetLists.{test_node, test_other}
+use Rattle.tree_machine.proofs.Lists.{slice_get-set, get-set_same, get-set_other, get-append_left, get-append_right}
+use Rattle.tree_machine.proofs.Lists.{get-append_cases}
 
 abbrev pub key_of : Shape → ℕ
 key_of (Leaf k) = k
@@ -53,6 +53,18 @@ module _ {Node : Type 0} (leaf : Node) (shape_in : Node → Shape) (key_in : Nod
       let t = map_some shape_in (slice_get nodes x) s e in
       ap (λ o. key_in (unwrap_or o leaf)) t.1 ∙ (key_is t.0 ∙ ap key_of (sym t.2))
 
+  -- what is seen in a list is seen in front of more, and behind others
+  in_front : (nodes more : List Node) (x : ℕ) (s : Shape) → seen nodes x ≡ Some s → seen (nodes ++ more) x ≡ Some s
+  in_front nodes more x s e =
+      let t = map_some shape_in (slice_get nodes x) s e in
+      ap (option_map shape_in) (get-append_left nodes more x t.0 t.1) ∙ ap Some (sym t.2)
+
+  behind : (nodes more : List Node) (i : ℕ) (s : Shape) → seen more i ≡ Some s
+      → seen (nodes ++ more) (length nodes + i) ≡ Some s
+  behind nodes more i s e =
+      let t = map_some shape_in (slice_get more i) s e in
+      ap (option_map shape_in) (get-append_right nodes more i t.0 t.1) ∙ ap Some (sym t.2)
+
   -- among new nodes there is first a leaf for the key, and an internal node over it and over the other leaf: that where
   -- the search ends, or a copy of it
   pub record AreOver (nodes more : List Node) (key leaf_key leaf_at other new : ℕ) : Type 0 where
@@ -70,11 +82,11 @@ module _ {Node : Type 0} (leaf : Node) (shape_in : Node → Shape) (key_in : Nod
     abbrev after : ℕ → Option Shape
     after = seen (slice_set (nodes ++ more) end.parent parent)
 
+    other_than : (x : ℕ) → (x ≡ end.parent → ⊥) → after x ≡ seen (nodes ++ more) x
+    other_than x differ = ap (option_map shape_in) (get-set_other (nodes ++ more) end.parent x parent differ)
+
     kept : (x : ℕ) (s : Shape) → (x ≡ end.parent → ⊥) → seen nodes x ≡ Some s → after x ≡ Some s
-    kept x s differ e =
-        let t = map_some shape_in (slice_get nodes x) s e in
-        ap (option_map shape_in) (get-set_other (nodes ++ more) end.parent x parent differ
-        ∙ get-append_left nodes more x t.0 t.1) ∙ ap Some (sym t.2)
+    kept x s differ e = other_than x differ ∙ in_front nodes more x s e
 
     within : (x : ℕ) (s : Shape) → seen nodes x ≡ Some s → x < length nodes
     within x s e = let t = map_some shape_in (slice_get nodes x) s e in slice_get_within nodes x t.0 t.1
@@ -82,47 +94,31 @@ module _ {Node : Type 0} (leaf : Node) (shape_in : Node → Shape) (key_in : Nod
     parent_then : (s : Shape) → seen nodes end.parent ≡ Some s
         → after end.parent ≡ Some (over_child (side_of key (key_of s)) (length nodes + new) s)
     parent_then s e =
-        let t = map_some shape_in (slice_get nodes end.parent) s e in
-        let old = get-append_left nodes more end.parent t.0 t.1 in
-        let same : shape_in (unwrap_or (slice_get (nodes ++ more) end.parent) leaf) ≡ s =
-        ap (λ o. shape_in (unwrap_or o leaf)) old ∙ sym t.2 in
-        let key_then = key_seen nodes end.parent s e in
-        ap (option_map shape_in)
-        (get-set_same (nodes ++ more) end.parent parent (slice_get_within (nodes ++ more) end.parent t.0 old))
-        ∙ (ap Some (child_is _ _ _)
-        ∙ (λ i. Some (over_child (side_of key (key_then i)) (length nodes + new) (same i))))
+        let t = map_some shape_in (slice_get (nodes ++ more) end.parent) s (in_front nodes more end.parent s e) in
+        let there = slice_get_within (nodes ++ more) end.parent t.0 t.1 in
+        rw (get-set_same (nodes ++ more) end.parent parent there, child_is, t.1, key_seen nodes end.parent s e, ← t.2)
+        refl
 
     left : (m l r : ℕ) → seen nodes end.parent ≡ Some (Internal m l r) → key < m
         → after end.parent ≡ Some (Internal m (length nodes + new) r)
-    left m l r e below =
-        parent_then (Internal m l r) e
-        ∙ ap (λ b. Some (over_child (if b then Left else Right) (length nodes + new) (Internal m l r)))
-        (le-leb (suc key) m below)
+    left m l r e below = rw (test_node m key below) at (parent_then (Internal m l r) e)
 
     right : (m l r : ℕ) → seen nodes end.parent ≡ Some (Internal m l r) → m ≤ key
         → after end.parent ≡ Some (Internal m l (length nodes + new))
-    right m l r e above =
-        parent_then (Internal m l r) e
-        ∙ ap (λ b. Some (over_child (if b then Left else Right) (length nodes + new) (Internal m l r)))
-        (lt-leb (suc key) m (omega arith))
+    right m l r e above = rw (test_other m key above) at (parent_then (Internal m l r) e)
 
     fresh : (i x : ℕ) (s : Shape) → x ≡ length nodes + i → end.parent < length nodes → seen more i ≡ Some s
         → after x ≡ Some s
-    fresh i x s e below is =
-        let t = map_some shape_in (slice_get more i) s is in
-        ap (option_map shape_in) (get-set_other (nodes ++ more) end.parent x parent (λ same. absurd (omega arith))
-        ∙ (ap (slice_get (nodes ++ more)) e ∙ get-append_right nodes more i t.0 t.1)) ∙ ap Some (sym t.2)
+    fresh i x s e below is = other_than x (λ same. absurd (omega arith)) ∙ rw e (behind nodes more i s is)
 
     other_leaf : (m l r j : ℕ) → seen nodes end.parent ≡ Some (Internal m l r) → seen nodes end.leaf ≡ Some (Leaf j)
         → after other ≡ Some (Leaf j)
     other_leaf m l r j e at =
         elim are.beside [
-          | inl same
-              ↦ ap after same
-              ∙ kept end.leaf (Leaf j) (λ one. let both = sym at ∙ (ap (seen nodes) one ∙ e) in cc) at
-          | inr copy
-              ↦ fresh copy.0 other (Leaf (key_at nodes end.leaf)) copy.1 (within end.parent (Internal m l r) e) copy.2
-              ∙ ap (λ k. Some (Leaf k)) (key_seen nodes end.leaf (Leaf j) at)
+          | inl same ↦ rw same (kept end.leaf (Leaf j) (λ one. cc (one, at, e)) at)
+          | inr copy ↦
+              rw (key_seen nodes end.leaf (Leaf j) at)
+              at (fresh copy.0 other _ copy.1 (within end.parent (Internal m l r) e) copy.2)
         ]
 
     over : (m l r j low high : ℕ) → seen nodes end.parent ≡ Some (Internal m l r)
@@ -131,22 +127,19 @@ module _ {Node : Type 0} (leaf : Node) (shape_in : Node → Shape) (key_in : Nod
     over m l r j low high e at differ a b c d =
         let n = length nodes in
         let below = within end.parent (Internal m l r) e in
-        let first : after n ≡ Some (Leaf key) = fresh 0 n (Leaf key) (omega arith) below are.own in
+        let first = fresh 0 n (Leaf key) (omega arith) below are.own in
         let second = other_leaf m l r j e at in
         let third : after (n + new) ≡ Some (over_both key j n other) =
-        fresh new (n + new) (over_both key (key_at nodes end.leaf) n other) refl below are.over
-        ∙ ap (λ k. Some (over_both key k n other)) (key_seen nodes end.leaf (Leaf j) at) in
-        elim (leb_tells (suc key) j) [
-          | inl t
-              ↦ of_node after 1 low high (n + new) (Some (Internal j n other))
-              (third ∙ ap (λ b. Some (if b then Internal j n other else Internal key other n)) t.0) (
-                of_node after 0 low (min j high) n (Some (Leaf key)) first (a, let u = t.1 in omega arith),
+        rw (key_seen nodes end.leaf (Leaf j) at) at (fresh new (n + new) _ refl below are.over) in
+        elim (cases_lt key j) [
+          | inl t ↦
+              of_node after 1 low high (n + new) (Some (Internal j n other)) (rw (test_node j key t) at third) (
+                of_node after 0 low (min j high) n (Some (Leaf key)) first (a, omega arith),
                 of_node after 0 (max j low) high other (Some (Leaf j)) second (omega arith, d),
               )
-          | inr t
-              ↦ of_node after 1 low high (n + new) (Some (Internal key other n))
-              (third ∙ ap (λ b. Some (if b then Internal j n other else Internal key other n)) t.0) (
-                of_node after 0 low (min key high) other (Some (Leaf j)) second (c, let u = t.1 in omega arith),
+          | inr t ↦
+              of_node after 1 low high (n + new) (Some (Internal key other n)) (rw (test_other j key t) at third) (
+                of_node after 0 low (min key high) other (Some (Leaf j)) second (c, omega arith),
                 of_node after 0 (max key low) high n (Some (Leaf key)) first (omega arith, b),
               )
         ]

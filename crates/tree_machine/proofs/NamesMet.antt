@@ -1,14 +1,14 @@
 -- Names of nodes and of records that a walk meets: what is new among them comes behind what was met.
-use Rattle.std.proofs.Common.{◌≡◌, ℕ, ◌+◌, ◌<◌, Bool, true, false, cond, ◌||◌, List, [], ◌∷◌, ◌++◌}
-use Rattle.std.proofs.Common.{map, refl, sym, ◌∙◌, ap, arith, append_assoc, append-nil}
+use Rattle.std.proofs.Common.{refl, ◌≡◌, ℕ, ◌+◌, ◌<◌, true, false, cond, List, [], ◌∷◌, ◌++◌, map, sym, ◌∙◌, ap, arith}
+use Rattle.std.proofs.Common.{append_assoc, append-nil}
 use Rattle.std.specs.Prelude.{Option, Some, None, nat_eq, nat_lt}
 use Rattle.std.specs.List.{All, list_any}
 use Rattle.std.specs.Option.{option_map}
 use Rattle.std.proofs.Math.Seq.{drop-append_seam}
 use Rattle.std.proofs.lemmas.Iterator.Adapters.{option_map_id}
 use Rattle.std.proofs.lemmas.List.{map-append, map-id}
-use Rattle.std.proofs.lemmas.List.Elements.{All-append, All-cons, All-map, All-nil, All-weaker}
-use Rattle.std.proofs.lemmas.List.Elements.{filter-append, recursion_from_All}
+use Rattle.std.proofs.lemmas.List.Elements.{All-append, All-cons, All-map, All-nil, All-weaker, filter-append}
+use Rattle.std.proofs.lemmas.List.Elements.{recursion_from_All}
 use Rattle.std.proofs.lemmas.List.Folds.{list_any-append}
 use Rattle.tree_machine.specs.Canonical.{as_cells, nodes_met, records_met}
 use Rattle.tree_machine.specs.Cells.{met_all}
@@ -16,10 +16,9 @@ use Rattle.tree_machine.specs.Coding.{newly}
 use Rattle.tree_machine.specs.Parts.{Part, IsPartBelow, part_cell}
 use Rattle.tree_machine.specs.Laws.CellOrder.{Extends, RefsBelow}
 use Rattle.tree_machine.specs.Laws.CellSteps.{same_tests}
-use Rattle.tree_machine.specs.Laws.MetLists.{node_has, has_node, record_has, has_record}
-use Rattle.tree_machine.proofs.Codings.{met_newly}
-use Rattle.tree_machine.proofs.Passes.{met_all_append}
-use Rattle.tree_machine.proofs.Queued.{nodes_of, records_of}
+use Rattle.tree_machine.specs.Laws.MetLists.{node_has, has_node, record_has, has_record, nodes_first, records_first}
+use Rattle.tree_machine.specs.Laws.StateExact.{same_answer}
+use Rattle.tree_machine.proofs.Codings.{met_newly, met_all_append}
 
 -- ---- names that are raised
 
@@ -30,9 +29,7 @@ AreAlike f b m xs = (y : ℕ) → y < b → list_any (nat_eq (f y)) m ≡ list_a
 module _ (f : ℕ → ℕ) (one : (x y : ℕ) → f x ≡ f y → x ≡ y) (b : ℕ) where
   alike_more : (m xs : List ℕ) (x : ℕ) → AreAlike f b m xs → AreAlike f b (m ++ f x ∷ []) (xs ++ x ∷ [])
   alike_more m xs x h y l =
-      list_any-append (nat_eq (f y)) m (f x ∷ [])
-      ∙ (λ i. h y l i || (same_tests (f y) y (f x) x (one y x, λ e. ap f e) i || false))
-      ∙ sym (list_any-append (nat_eq y) xs (x ∷ []))
+      rw (list_any-append, list_any-append, h y l, same_tests (f y) y (f x) x (one y x, λ e. ap f e)) refl
 
   -- from now and then on, refs add the same numbers to xs, and raised to m
   abbrev AddNew : (xs now m then : List ℕ) → List (Option ℕ) → Type 0
@@ -67,11 +64,6 @@ module _ (f : ℕ → ℕ) (one : (x y : ℕ) → f x ≡ f y → x ≡ y) (b : 
 
 -- ---- the nodes and the records among what is met
 
-same_tests_both : (a b : Bool) → (a ≡ true → b ≡ true) → (b ≡ true → a ≡ true) → a ≡ b
-same_tests_both true b f g = sym (f refl)
-same_tests_both false true f g = g refl
-same_tests_both false false f g = refl
-
 -- what is met in two pieces
 pub nodes_append : (n : ℕ) (xs ys : List ℕ) → nodes_met n (xs ++ ys) ≡ nodes_met n xs ++ nodes_met n ys
 nodes_append n xs ys = filter-append (λ x. nat_lt x n) xs ys
@@ -79,6 +71,16 @@ nodes_append n xs ys = filter-append (λ x. nat_lt x n) xs ys
 pub records_append : (n r : ℕ) (xs ys : List ℕ)
     → records_met n r (xs ++ ys) ≡ records_met n r xs ++ records_met n r ys
 records_append n r xs ys = simp (filter-append, map-append)
+
+-- nodes and records that come first
+module _ (n r : ℕ) (nodes records : List ℕ) (below : All (λ x. x < n) nodes) where
+  pub nodes_of : nodes_met n (as_cells n nodes records) ≡ nodes
+  nodes_of = simp append-nil at (nodes_first n r nodes records [] (recursion_from_All _ _ below))
+
+  pub records_of : All (λ y. y < r) records → records_met n r (as_cells n nodes records) ≡ records
+  records_of h =
+      simp append-nil
+      at (records_first n r nodes records [] (recursion_from_All _ _ below) (recursion_from_All _ _ h))
 
 -- what is met later comes behind
 pub nodes_extend : {xs ys : List ℕ} (n : ℕ) → Extends xs ys → Extends (nodes_met n xs) (nodes_met n ys)
@@ -136,7 +138,7 @@ part_met n r p m h =
     nodes : All (λ x. x < n) new × (met_all m (map (option_map (λ x. x)) p.nodes) ≡ m ++ map (λ x. x) new)
     nodes =
         met_raised (λ x. x) (λ x y e. e) n p.nodes (nodes_met n m) m (recursion_from_All _ _ h.nodes)
-        (λ y l. same_tests_both _ _ (λ g. has_node n m y g l) (λ g. (node_has n m y g).0))
+        (λ y l. same_answer _ _ (λ g. has_node n m y g l) (λ g. (node_has n m y g).0))
 
     nodes_first : met_all m p.nodes ≡ m ++ new
     nodes_first =
@@ -156,5 +158,5 @@ part_met n r p m h =
     others =
         met_raised (λ x. n + x) (λ x y e. omega (arith, e)) r p.records (records_met n r m) (m ++ new)
         (recursion_from_All _ _ h.records)
-        (λ y l. same_tests_both _ _ (λ g. has_record n (m ++ new) r y g l) (λ g. (record_has n (m ++ new) r y g).0)
+        (λ y l. same_answer _ _ (λ g. has_record n (m ++ new) r y g l) (λ g. (record_has n (m ++ new) r y g).0)
         ∙ ap (list_any (nat_eq y)) same)

@@ -1,7 +1,8 @@
--- A step after which its thread has no reply and no note more leaves what the threads did as it was.
-use Rattle.std.proofs.Common.{◌≡◌, ℕ, Bool, List, [], ◌∷◌, ◌++◌, length, map, Option, Some, None, refl}
-use Rattle.std.proofs.Common.{sym, ap, ◌∙◌, arith, slice_get, slice_set, is_some, if◌then◌else◌, length-append}
-use Rattle.std.proofs.lemmas.List.{append-nil}
+-- A step after which its thread has no reply and no note more leaves what the threads did as it was, and a step that is
+-- taken back leaves the state that it was made from.
+use Rattle.std.proofs.Common.{◌≡◌, ℕ, Bool, List, [], ◌∷◌, ◌++◌, length, map, Option, Some, None, refl, sym, ap, ◌∙◌}
+use Rattle.std.proofs.Common.{arith, slice_get, slice_set, length-append, ◌+◌, ◌-◌, set}
+use Rattle.std.proofs.lemmas.List.{append-nil, set-get_or, set-set}
 use Rattle.std.proofs.Math.Seq.{map-set_same}
 use Rattle.std.proofs.lemmas.Option.{get_or_from_slice_get, same_Some, slice_get_within}
 use Rattle.sched_program.specs.Program.{Program}
@@ -9,14 +10,14 @@ use Rattle.tree_machine.specs.Alike.{replies_of, notes_of}
 use Rattle.tree_machine.specs.Offsets.{op_log_of}
 use Rattle.tree_machine.specs.FormCode.{op_log_code}
 use Rattle.tree_machine.specs.Rules.{Rules}
-use Rattle.tree_machine.specs.Step.{at_step, after_access, finished_counts, notes_at_step, ready, step}
+use Rattle.tree_machine.specs.Step.{at_step, after_access, finished_counts, notes_at_step, ready, step, place_or}
 use Rattle.tree_machine.specs.declared.machine.Outcome.{Outcome}
 use Rattle.tree_machine.specs.declared.machine.Outcome.TheVariants.{Goes, Replies, Astray}
 use Rattle.tree_machine.specs.declared.state.Thread.{Thread}
 use Rattle.tree_machine.specs.declared.state.State.{State}
-use Rattle.tree_machine.proofs.Lists.{get-set_same}
 use Rattle.tree_machine.specs.Laws.Decoded.{map_some}
-use Rattle.tree_machine.proofs.States.{step_parts}
+use Rattle.tree_machine.proofs.Lists.{get-set_same}
+use Rattle.tree_machine.proofs.States.{not_astray, step_parts}
 
 module _ {X : Type 0} where
   map-put : {Y : Type 0} (f : X → Y) (xs : List X) (i : ℕ) (v x : X) → slice_get xs i ≡ Some x → f v ≡ f x
@@ -33,70 +34,77 @@ noted : {Place : Type 0} (held : Option Place) (notes : List (List ℕ)) (counts
 noted None notes counts = (counts ∷ [], refl)
 noted (Some place) notes counts = ([], sym (append-nil notes))
 
-module _ {Machine Memory Place Form : Type 0} (state : State Machine Memory Place Form) (t : ℕ)
-    (there here : Thread Place) (at_t : slice_get state.threads t ≡ Some there)
-    (as_many : length here.replies ≡ length there.replies) (as_many_notes : length here.notes ≡ length there.notes)
-  where
-    -- the thread is replaced by one that did what it did, and maybe more
-    put_same : (after : Thread Place) (more : List Bool) (more_notes : List (List ℕ))
-        → slice_get (slice_set state.threads t after) t ≡ Some here → after.replies ≡ there.replies ++ more
-        → after.notes ≡ there.notes ++ more_notes
-        → (replies_of (slice_set state.threads t after) ≡ replies_of state.threads)
-        × (notes_of (slice_set state.threads t after) ≡ notes_of state.threads)
-    put_same after more more_notes found replies notes =
-        let same : here ≡ after =
-        same_Some _ _
-        (sym found ∙ get-set_same state.threads t after (slice_get_within state.threads t there at_t)) in (
-          map-put (λ (x : Thread Place). x.replies) state.threads t after there at_t
-              (no_more there.replies more after.replies replies (rw same at as_many)),
-          map-put (λ (x : Thread Place). x.notes) state.threads t after there at_t
-              (no_more there.notes more_notes after.notes notes (rw same at as_many_notes)),
-        )
-
-    access_same : (at : Thread Place) (more_notes : List (List ℕ)) (acted : Memory × Outcome Place)
-        → at.replies ≡ there.replies → at.notes ≡ there.notes ++ more_notes
-        → slice_get (after_access state t at acted).threads t ≡ Some here
-        → (replies_of (after_access state t at acted).threads ≡ replies_of state.threads)
-        × (notes_of (after_access state t at acted).threads ≡ notes_of state.threads)
-    access_same at more_notes (memory, Goes place) replies notes found =
-        put_same (record at { place = Some place }) [] more_notes found (rw append-nil replies) notes
-    access_same at more_notes (memory, Replies reply) replies notes found =
-        put_same (record at { replies = at.replies ++ reply ∷ []; place = None }) (reply ∷ []) more_notes found
-        (rw replies refl) notes
-    access_same at more_notes (memory, Astray) replies notes found =
-        put_same at [] more_notes found (rw append-nil replies) notes
-
-not_astray : {X : Type 0} (astray : Option ℕ) (rest : Option X) (x : X)
-    → (if is_some astray then None else rest) ≡ Some x → astray ≡ None
-not_astray None rest x h = refl
-not_astray (Some t) rest x h = cc
+module _ {Machine Memory Place Form : Type 0} where
+  -- an access replaces one thread by one that has maybe a reply more, and counts one step
+  access_parts : (state : State Machine Memory Place Form) (t : ℕ) (at : Thread Place)
+      (acted : Memory × Outcome Place) → (after : Thread Place) × (more : List Bool)
+      × ((after_access state t at acted).threads ≡ slice_set state.threads t after)
+      × (after.replies ≡ at.replies ++ more) × (after.notes ≡ at.notes)
+      × ((after_access state t at acted).steps ≡ state.steps + 1)
+  access_parts state t at (memory, Goes place) =
+      (record at { place = Some place }, [], refl, sym (append-nil at.replies), refl, refl)
+  access_parts state t at (memory, Replies reply) = (_, reply ∷ [], refl, refl, refl, refl)
+  access_parts state t at (memory, Astray) = (at, [], refl, sym (append-nil at.replies), refl, refl)
 
 module _ {Machine Memory Place Form : Type 0} (rules : Rules Memory Place) (program : Program)
     (state next : State Machine Memory Place Form) (t : ℕ) (made : step rules program state t ≡ Some next) where
   -- a state that has a step is not astray
   pub source_not_astray : state.astray ≡ None
   source_not_astray =
-      let whose = map_some _ (ready program state t) next made in not_astray state.astray _ whose.0 whose.1
+      let whose = map_some _ (ready program state t) next made in (not_astray state.astray _ whose.0 whose.1).0
 
-  module _ (there here : Thread Place) (at_t : slice_get state.threads t ≡ Some there)
+  module _ {there here : Thread Place} (at_t : slice_get state.threads t ≡ Some there)
       (found : slice_get next.threads t ≡ Some here) (as_many : length here.replies ≡ length there.replies)
       (as_many_notes : length here.notes ≡ length there.notes) where
     -- what the threads did is as it was
-    pub op_log_stays : (replies_of next.threads ≡ replies_of state.threads)
+    op_log_stays : (replies_of next.threads ≡ replies_of state.threads)
         × (notes_of next.threads ≡ notes_of state.threads)
     op_log_stays =
         step_parts rules program _ state next t made (λ thread is op at_op stepped_is.
         let same : thread ≡ there = same_Some _ _ (sym is ∙ at_t) in
-        let more = noted thread.place thread.notes (finished_counts state.threads) in
-        rw stepped_is
-        (access_same state t there here at_t as_many as_many_notes (at_step rules state op thread) more.0 _
-        (rw same refl) (more.1 ∙ ap (λ (x : Thread Place). x.notes ++ more.0) same) (rw stepped_is at found)))
+        let noted = noted thread.place thread.notes (finished_counts state.threads) in
+        let acted = rules.act op (place_or thread.place (rules.first op)) state.memory in
+        let parts = access_parts state t (at_step rules state op thread) acted in
+        let after = parts.0 in
+        let set : next.threads ≡ slice_set state.threads t after = rw stepped_is parts.2 in
+        let within = slice_get_within state.threads t there at_t in
+        let now : here ≡ after = same_Some _ _ (sym (rw set at found) ∙ get-set_same state.threads t after within) in
+        let replies = parts.3 ∙ ap (λ (x : Thread Place). x.replies ++ parts.1) same in
+        let notes = parts.4 ∙ noted.1 ∙ ap (λ (x : Thread Place). x.notes ++ noted.0) same in
+        rw set (
+          map-put (λ (x : Thread Place). x.replies) state.threads t after there at_t
+              (no_more there.replies parts.1 after.replies replies (rw now at as_many)),
+          map-put (λ (x : Thread Place). x.notes) state.threads t after there at_t
+              (no_more there.notes noted.0 after.notes notes (rw now at as_many_notes)),
+        ))
 
-  -- the bytes of what the threads did are as they were
-  pub same_op_log : (there here : Thread Place) → slice_get state.threads t ≡ Some there
-      → slice_get next.threads t ≡ Some here → next.astray ≡ None → length here.replies ≡ length there.replies
-      → length here.notes ≡ length there.notes → op_log_of next ≡ op_log_of state
-  same_op_log there here at_t found calm as_many as_many_notes =
-      let kept = op_log_stays there here at_t found as_many as_many_notes in
-      let astray = calm ∙ sym source_not_astray in
-      λ i. op_log_code (kept.0 i) (kept.1 i) (astray i)
+    -- and so are its bytes
+    pub same_op_log : next.astray ≡ None → op_log_of next ≡ op_log_of state
+    same_op_log calm =
+        let astray = calm ∙ sym source_not_astray in
+        λ i. op_log_code (op_log_stays.0 i) (op_log_stays.1 i) (astray i)
+
+-- ---- a step that is taken back
+
+-- an element restored where another one had replaced it
+set_back : {X : Type 0} (xs : List X) (i : ℕ) (v x : X) → slice_get xs i ≡ Some v
+    → slice_set (slice_set xs i x) i v ≡ xs
+set_back xs i v x h =
+    rw (set-set xs i x v, ← get_or_from_slice_get xs i v v h) (set-get_or xs i v)
+
+module _ {Machine Memory Place Form : Type 0} where
+  -- a state whose step is undone in its memory, its threads and its count
+  pub taken_back : (rules : Rules Memory Place) (program : Program) (source next : State Machine Memory Place Form)
+      (t : ℕ) (made : step rules program source t ≡ Some next) {thread : Thread Place} {memory : Memory}
+      {threads : List (Thread Place)} → slice_get source.threads t ≡ Some thread → memory ≡ source.memory
+      → threads ≡ slice_set next.threads t thread
+      → ◌≡◌ {A = State Machine Memory Place Form}
+      (record { memory = memory; threads = threads; steps = next.steps - 1; astray = None }) source
+  taken_back rules program source next t made {thread} {threads = threads} was m set =
+      step_parts rules program _ source next t made (λ there at_t op at_op is.
+      let acted = rules.act op (place_or there.place (rules.first op)) source.memory in
+      let parts = access_parts source t (at_step rules source op there) acted in
+      let restored : threads ≡ source.threads =
+      rw (set, is, parts.2) (set_back source.threads t thread parts.0 was) in
+      let steps : next.steps - 1 ≡ source.steps = rw (is, parts.5) (omega arith) in
+      rw (m, restored, steps, ← source_not_astray rules program source next t made) refl)

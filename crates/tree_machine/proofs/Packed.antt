@@ -39,7 +39,7 @@ pub code_of_number : (n : ℕ) → note_number (counts_in n) ≡ n → note_code
 unfolding note_code
 code_of_number n whole = rw (counts_short n, whole) refl
 
-module _ (n : ℕ) (counts : List ℕ) (whole : note_number (counts_in n) ≡ n) (is : counts_in n ≡ counts) where
+module _ {n : ℕ} {counts : List ℕ} (whole : note_number (counts_in n) ≡ n) (is : counts_in n ≡ counts) where
   is_number : n ≡ note_number counts
   is_number = sym whole ∙ ap note_number is
 
@@ -68,25 +68,26 @@ module _ (n : ℕ) (counts : List ℕ) (whole : note_number (counts_in n) ≡ n)
   none_at t many = sym (get_or_past counts t 0 (omega (arith, four_at_most)))
 
   -- one count more
-  module _ (count moved : ℕ) (room : length counts < 4) (small : count < 8)
-      (shifted : moved ≡ count * 2 ^ (3 * (n / 4096)) % 65536) where
-    moved_is : moved ≡ count * 2 ^ (3 * length counts)
-    moved_is =
-        rw (shifted, ← length_is) (shl_whole count 3 (3 * (n / 4096)) 16 small (omega (arith, length_is, room)))
+  module _ {count k : ℕ} (room : length counts < 4) (small : count < 8) (same : k ≡ count) where
+    abbrev longer : ℕ
+    longer = n + (4096 + k * 2 ^ (3 * (n / 4096)) % 65536)
 
-    longer : n + (4096 + moved) ≡ note_number (counts ++ count ∷ [])
-    longer = ap₂ (λ k m. k + (4096 + m)) is_number moved_is ∙ sym (one_count_more counts count room)
+    longer_is : longer ≡ note_number (counts ++ count ∷ [])
+    longer_is =
+        let moved : k * 2 ^ (3 * (n / 4096)) % 65536 ≡ count * 2 ^ (3 * length counts) =
+        rw (same, ← length_is) (shl_whole count 3 (3 * (n / 4096)) 16 small (omega (arith, length_is, room))) in
+        ap₂ (λ k m. k + (4096 + m)) is_number moved ∙ sym (one_count_more counts count room)
 
     longer_short : is_short (counts ++ count ∷ []) ≡ true
     longer_short =
         short_of (counts ++ count ∷ []) (omega (arith, length-append counts (count ∷ []), room))
         (digits_more counts count (short_parts counts are_short).1 small)
 
-    pub count_pushed : counts_in (n + (4096 + moved)) ≡ counts ++ count ∷ []
-    count_pushed = ap counts_in longer ∙ counts_of_number (counts ++ count ∷ []) longer_short
+    pub count_pushed : counts_in longer ≡ counts ++ count ∷ []
+    count_pushed = ap counts_in longer_is ∙ counts_of_number (counts ++ count ∷ []) longer_short
 
-    pub longer_below : n + (4096 + moved) < 20480
-    longer_below = rw longer (number_below (counts ++ count ∷ []) longer_short)
+    pub longer_below : longer < 20480
+    longer_below = rw longer_is (number_below (counts ++ count ∷ []) longer_short)
 
-    pub longer_whole : note_number (counts_in (n + (4096 + moved))) ≡ n + (4096 + moved)
-    longer_whole = ap note_number count_pushed ∙ sym longer
+    pub longer_whole : note_number (counts_in longer) ≡ longer
+    longer_whole = ap note_number count_pushed ∙ sym longer_is

@@ -1,9 +1,11 @@
--- The history of a state that fits a program is a history of that program.
-use Rattle.std.proofs.Common.{◌≡◌, ℕ, zero, suc, ◌+◌, ◌⊎◌, inl, inr, Bool, true, false, List, [], ◌∷◌, ◌++◌}
-use Rattle.std.proofs.Common.{length, map, Option, Some, IsSome, refl, sym, ap, ◌∙◌, arith, slice_get}
-use Rattle.std.proofs.Common.{get_or, if◌then◌else◌, ◌==◌, ◌&&◌}
+-- Histories: the operations of one more reply and of one more thread, and that the history of a state that fits a
+-- program is a history of that program.
+use Rattle.std.proofs.Common.{is_some, ◌≡◌, ℕ, zero, suc, ◌+◌, inl, inr, Bool, true, false, List, [], ◌∷◌, ◌++◌, length}
+use Rattle.std.proofs.Common.{map, Option, Some, IsSome, refl, sym, ap, ◌∙◌, arith, slice_get, get_or, if◌then◌else◌}
+use Rattle.std.proofs.Common.{◌<◌, take, append_assoc, length-take-le}
 use Rattle.std.proofs.lemmas.Option.{slice_get_within, slice_get-get_or, get_or_from_slice_get, same_Some}
 use Rattle.std.proofs.lemmas.Bool.{eq-eqb}
+use Rattle.std.proofs.lemmas.List.{take_more, append-nil, length-map, map-append}
 use Rattle.sched_program.specs.declared.operation.Op.{Op}
 use Rattle.sched_program.specs.declared.operation.OpId.{OpId}
 use Rattle.sched_program.specs.Name.{same_name, value_at, IsBefore, Ascend}
@@ -16,8 +18,44 @@ use Rattle.tree_machine.specs.declared.state.Thread.{Thread}
 use Rattle.tree_machine.specs.declared.state.State.{State}
 use Rattle.tree_machine.proofs.Lists.{get-append_left, get-append_right, get-append_cases, get-map, map-get, get_at}
 
-both_same : (a b c d : ℕ) → a ≡ b → c ≡ d → (a == b && c == d) ≡ true
-both_same a b c d h i = let p = eq-eqb a b h in let q = eq-eqb c d i in cc
+module _ {A : Type 0} where
+  named-push : (thread index : ℕ) (xs : List A) (x : A) (last : ℕ) → last ≡ index + length xs
+      → named thread index (xs ++ x ∷ []) ≡ named thread index xs ++ (record { thread = thread; index = last }, x) ∷ []
+  named-push thread index [] x last is = let same : index ≡ last = omega arith in rw same
+  named-push thread index (y ∷ ys) x last is =
+      ap (λ rest. (record { thread = thread; index = index }, y) ∷ rest)
+      (named-push thread (index + 1) ys x last (omega arith))
+
+  all_named-push : (thread : ℕ) (all : List (List A)) (xs : List A) (last : ℕ) → last ≡ thread + length all
+      → all_named thread (all ++ xs ∷ []) ≡ all_named thread all ++ named last 0 xs
+  all_named-push thread [] xs last is = let same : thread ≡ last = omega arith in rw same (append-nil _)
+  all_named-push thread (ys ∷ all) xs last is =
+      ap (λ rest. named thread 0 ys ++ rest) (all_named-push (thread + 1) all xs last (omega arith))
+      ∙ sym (append_assoc (named thread 0 ys) (all_named (thread + 1) all) (named last 0 xs))
+
+  -- one more operation
+  pub one_more : (before : List (OpId × A)) {now next : List (OpId × A)} (thread index : ℕ) (xs : List A) {x : A}
+      → slice_get xs index ≡ Some x → now ≡ before ++ named thread 0 (take index xs)
+      → next ≡ now ++ (record { thread = thread; index = index }, x) ∷ []
+      → next ≡ before ++ named thread 0 (take (index + 1) xs)
+  one_more before thread index xs {x} at_x at_now at_next =
+      let below = slice_get_within xs index x at_x in
+      let last = named-push thread 0 (take index xs) x index
+      (omega (arith, length-take-le index xs (omega arith))) in
+      rw (at_next, at_now, take_more xs index x below, get_or_from_slice_get xs index x x at_x, last)
+      (append_assoc before (named thread 0 (take index xs)) _)
+
+  -- the operations of one more thread
+  pub one_thread_more : {X : Type 0} (read : X → List A) {now next : List (OpId × A)} (threads : List X) {t : ℕ}
+      {thread : X} → t < length threads → thread ≡ get_or threads t thread
+      → now ≡ all_named 0 (map read (take t threads)) → next ≡ now ++ named t 0 (read thread)
+      → next ≡ all_named 0 (map read (take (t + 1) threads))
+  one_thread_more read threads {t} {thread} below is at_now at_next =
+      let last = all_named-push 0 (map read (take t threads)) (read thread) t
+      (omega (arith, length-map (take t threads) read, length-take-le t threads (omega arith))) in
+      rw (at_next, at_now, take_more threads t thread below, ← is, map-append, last) refl
+
+-- ---- the history of a state
 
 module _ {A : Type 0} where
   -- what is in the list of a thread's operations
@@ -99,21 +137,18 @@ module _ {A : Type 0} where
       inl (omega (arith, first.1, second.5)))
 
   -- a name that is in a list has a value there
-  value_or_later : (b : Bool) (v : A) (later : Option A) → (b ≡ true) ⊎ (IsSome later)
-      → IsSome (if b then Some v else later)
+  value_or_later : (b : Bool) (v : A) (later : Option A) → IsSome later → IsSome (if b then Some v else later)
   value_or_later true v later h = refl
-  value_or_later false v later (inl h) = cc
-  value_or_later false v later (inr h) = h
+  value_or_later false v later h = h
 
   value_found : (entries : List (OpId × A)) (k : ℕ) (e : OpId × A) (a : OpId) → slice_get entries k ≡ Some e
       → e.0.thread ≡ a.thread → e.0.index ≡ a.index → IsSome (value_at entries a)
   value_found [] k e a h thread index = cc
   value_found (x ∷ entries) zero e a h thread index =
       let same = same_Some _ _ h in
-      value_or_later (same_name x.0 a) x.1 (value_at entries a)
-      (inl (both_same _ _ _ _ (ap (λ p. p.0.thread) same ∙ thread) (ap (λ p. p.0.index) same ∙ index)))
+      rw (eq-eqb _ _ (ap (λ p. p.0.thread) same ∙ thread), eq-eqb _ _ (ap (λ p. p.0.index) same ∙ index)) refl
   value_found (x ∷ entries) (suc k) e a h thread index =
-      value_or_later (same_name x.0 a) x.1 (value_at entries a) (inr (value_found entries k e a h thread index))
+      value_or_later (same_name x.0 a) x.1 (value_at entries a) (value_found entries k e a h thread index)
 
 module _ {Machine Memory Place Form : Type 0} (rules : Rules Memory Place) (program : Program)
     (state : State Machine Memory Place Form) (fits : Fits rules program state) where
@@ -125,38 +160,29 @@ module _ {Machine Memory Place Form : Type 0} (rules : Rules Memory Place) (prog
       get_at program.threads u (omega (arith, slice_get_within state.threads u thread at_u, fits.thread_count)) in
       (there.0, there.1, fits.threads u there.0 thread there.1 at_u)
 
-  op_there : (u i : ℕ) (thread : Thread Place) (note : List ℕ) → slice_get state.threads u ≡ Some thread
-      → slice_get thread.notes i ≡ Some note → IsSome (op_at program u i)
-  op_there u i thread note at_u at_i =
-      let found = with_ops u thread at_u in
-      let op = get_at found.0 i (omega (arith, slice_get_within thread.notes i note at_i, found.2.begun)) in
-      rw (found.1, op.1) refl
-
-  note_counts : (u i : ℕ) (thread : Thread Place) (note : List ℕ) → slice_get state.threads u ≡ Some thread
-      → slice_get thread.notes i ≡ Some note → length note ≡ length program.threads
-  note_counts u i thread note at_u at_i =
-      rw (get_or_from_slice_get thread.notes i note note at_i)
-      at ((with_ops u thread at_u).2.notes i note (slice_get_within thread.notes i note at_i))
-
   abbrev all_notes : List (List (List ℕ))
   all_notes = map (λ thread. thread.notes) state.threads
 
   abbrev all_replies : List (List Bool)
   all_replies = map (λ thread. thread.replies) state.threads
 
-  -- what is at a place among the begun operations
-  begun_at : (k : ℕ) (e : OpId × List ℕ) → slice_get (all_named 0 all_notes) k ≡ Some e
-      → (thread : Thread Place) × (slice_get state.threads e.0.thread ≡ Some thread)
-      × (slice_get thread.notes e.0.index ≡ Some e.1)
-  begun_at k e h =
+  -- each begun operation is there, and its note has a count for each thread
+  begun_there : (k : ℕ) (e : OpId × List ℕ) → slice_get (all_named 0 all_notes) k ≡ Some e
+      → IsSome (op_at program e.0.thread e.0.index) × (length e.1 ≡ length program.threads)
+  begun_there k e h =
       let at = all_named_at 0 all_notes k e h in
       let thread = get-map (λ thread. thread.notes) state.threads at.0 at.2 at.3 in
+      let found = with_ops at.0 thread.0 thread.1 in
+      let note = rw thread.2 at at.4 in
+      let within = slice_get_within thread.0.notes at.1 e.1 note in
+      let op = get_at found.0 at.1 (omega (arith, within, found.2.begun)) in
+      let there : IsSome (op_at program at.0 at.1) = rw (found.1, op.1) refl in
       let same : e.0.thread ≡ at.0 = omega (arith, at.5) in (
-        thread.0,
-        ap (slice_get state.threads) same ∙ thread.1,
-        ap (slice_get thread.0.notes) at.6 ∙ rw thread.2 at at.4,
+        (λ i. is_some (op_at program (same i) (at.6 i))) ∙ there,
+        rw (get_or_from_slice_get thread.0.notes at.1 e.1 e.1 note) at (found.2.notes at.1 e.1 within),
       )
 
+  -- each finished operation has begun
   reply_begun : (k : ℕ) (e : OpId × Bool) → slice_get (all_named 0 all_replies) k ≡ Some e
       → IsSome (value_at (all_named 0 all_notes) e.0)
   reply_begun k e h =
@@ -170,19 +196,13 @@ module _ {Machine Memory Place Form : Type 0} (rules : Rules Memory Place) (prog
       (map-get (λ thread. thread.notes) state.threads at.0 thread.0 thread.1) note.1 in
       value_found (all_named 0 all_notes) there.0 there.1 e.0 there.2 (there.3 ∙ sym at.5) (there.4 ∙ sym at.6)
 
-  pub is_history : (begun : List (OpId × List ℕ)) (finished : List (OpId × Bool)) → begun ≡ all_named 0 all_notes
+  pub is_history : {begun : List (OpId × List ℕ)} {finished : List (OpId × Bool)} → begun ≡ all_named 0 all_notes
       → finished ≡ all_named 0 all_replies
       → IsHistoryOf program (record { begun = begun; finished = finished })
-  is_history begun finished b f =
+  is_history b f =
       rw (b, f) (record {
-        names = λ k d within.
-            let e = get_or (all_named 0 all_notes) k d in
-            let at = begun_at k e (slice_get-get_or (all_named 0 all_notes) k d within) in
-            op_there e.0.thread e.0.index at.0 e.1 at.1 at.2;
-        notes = λ k d within.
-            let e = get_or (all_named 0 all_notes) k d in
-            let at = begun_at k e (slice_get-get_or (all_named 0 all_notes) k d within) in
-            note_counts e.0.thread e.0.index at.0 e.1 at.1 at.2;
+        names = λ k d within. (begun_there k _ (slice_get-get_or (all_named 0 all_notes) k d within)).0;
+        notes = λ k d within. (begun_there k _ (slice_get-get_or (all_named 0 all_notes) k d within)).1;
         begun_ascend = all_named_ascend 0 all_notes;
         finished_are_begun =
             λ k d within. reply_begun k (get_or (all_named 0 all_replies) k d)

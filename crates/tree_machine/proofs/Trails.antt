@@ -1,28 +1,38 @@
--- Walks that write what they visit.
-use Rattle.std.proofs.Common.{◌≡◌, ℕ, zero, suc, ◌+◌, ◌-◌, ◌<◌, ◌≤◌, ◌⊎◌, List, [], ◌∷◌, ◌++◌, length, take}
-use Rattle.std.proofs.Common.{refl, sym, ◌∙◌, ap, subst, inl, inr, arith, append_assoc, append-nil, length-append}
-use Rattle.std.proofs.Common.{zero-add, add-zero, add-suc}
+-- Walks that write what they visit: a graph in bytes behind counts that were put first, and the front of canonical
+-- parts.
+use Rattle.std.proofs.Common.{◌≡◌, ℕ, zero, suc, ◌+◌, ◌-◌, ◌<◌, ◌≤◌, ◌⊎◌, List, [], ◌∷◌, ◌++◌, length, take, refl, sym}
+use Rattle.std.proofs.Common.{◌∙◌, ap, subst, inl, inr, arith, append_assoc, append-nil, length-append, add-zero}
+use Rattle.std.proofs.Common.{add-suc, map, drop, ◌||◌}
 use Rattle.std.proofs.Math.Nat.{add_comm}
-use Rattle.std.specs.Prelude.{slice_get, Some, None}
+use Rattle.std.specs.Prelude.{slice_get, Some, None, nat_eq}
 use Rattle.std.specs.List.{All}
-use Rattle.std.proofs.lemmas.List.{map-append, take-append-le, take_all, take_more}
+use Rattle.std.proofs.lemmas.List.{map-append, take-append-le, take_all, take_more, length-map}
 use Rattle.std.proofs.lemmas.Grind.{flat_map-append}
-use Rattle.std.proofs.lemmas.List.Elements.{filter-append, All-append, recursion_from_All}
+use Rattle.std.proofs.lemmas.List.Elements.{filter-append, All-append, recursion_from_All, All-nil}
 use Rattle.std.proofs.lemmas.Option.{slice_get_past, slice_get_within, get_or_from_slice_get}
-use Rattle.tree_machine.specs.Canonical.{nodes_met, records_met, renamed_part}
+use Rattle.std.proofs.Math.Seq.{drop-append-add, take-append_seam}
+use Rattle.std.proofs.Math.Bool.{or-true}
+use Rattle.tree_machine.specs.Canonical.{nodes_met, records_met, renamed_part, canonical_parts, canonical_front}
+use Rattle.tree_machine.specs.Canonical.{front_nodes, front_order, front_records}
 use Rattle.tree_machine.specs.Cells.{Content, content_at, met_all, met_in, order_of, IsRooted}
 use Rattle.tree_machine.specs.Coding.{Coding, IsVisited, IsWalk, coded_by, nodes_by, records_by, with_part}
-use Rattle.tree_machine.specs.Flat.{cell_code, part_codes, part_content}
-use Rattle.tree_machine.specs.Parts.{Part, Parts, ArePartsInRange, IsPartBelow, part_at}
-use Rattle.tree_machine.specs.Parts.{part_cell, parts_graph, parts_held}
-use Rattle.tree_machine.specs.Laws.CellOrder.{Extends, extends_itself, extends_more, visited_extends}
-use Rattle.tree_machine.specs.Laws.CellOrder.{all_has, length-order, met_all_extends, met_all_has, met_in_order}
-use Rattle.tree_machine.specs.Laws.CellOrder.{met_in_stable}
+use Rattle.tree_machine.specs.Flat.{cell_code, part_codes, part_content, graph_code, front_code}
+use Rattle.tree_machine.specs.Parts.{Part, Parts, ArePartsInRange, IsPartBelow, part_at, part_cell, parts_graph}
+use Rattle.tree_machine.specs.Parts.{parts_held}
+use Rattle.tree_machine.specs.Graphs.{numbers_from}
+use Rattle.tree_machine.specs.Laws.CellOrder.{Extends, extends_itself, extends_more, visited_extends, all_has}
+use Rattle.tree_machine.specs.Laws.CellOrder.{length-order, met_all_extends, met_all_has, met_in_order, met_in_stable}
+use Rattle.tree_machine.specs.Laws.CellOrder.{Has}
 use Rattle.tree_machine.specs.Laws.CellPlaces.{has_at}
 use Rattle.tree_machine.specs.Laws.PartCells.{node_at, record_at}
 use Rattle.tree_machine.specs.Laws.MetLists.{test_node, test_other, test_record, test_before}
-use Rattle.tree_machine.proofs.Codings.{renamed_kept}
-use Rattle.tree_machine.proofs.NamesMet.{new_cells, part_met}
+use Rattle.tree_machine.specs.Laws.SmallCodes.{small_code}
+use Rattle.tree_machine.specs.Laws.Canonical.{front_met, front_same, nodes_extended, records_extended}
+use Rattle.tree_machine.specs.Laws.CellLists.{numbers_all}
+use Rattle.tree_machine.specs.Laws.PartsBy.{IsPartMet}
+use Rattle.tree_machine.proofs.Codings.{renamed_kept, codes_append}
+use Rattle.tree_machine.proofs.Lists.{get-append_right}
+use Rattle.tree_machine.proofs.NamesMet.{new_cells, part_met, nodes_append, records_append, nodes_of, records_of}
 use Rattle.tree_machine.proofs.VisitedParts.{part_below}
 use Rattle.tree_machine.proofs.Walks.{met_in_done, met_in_next}
 
@@ -49,13 +59,6 @@ module _ (cells : List Content) (roots : List ℕ) where
 
 -- ---- one visit more
 
--- what is at a place behind a list
-get_behind : (xs ys : List ℕ) (k : ℕ) → slice_get (xs ++ ys) (length xs + k) ≡ slice_get ys k
-get_behind [] ys k = ap (slice_get ys) (zero-add k)
-get_behind (x ∷ xs) ys k =
-    let e : suc (length xs) + k ≡ suc (length xs + k) = omega arith in
-    ap (slice_get ((x ∷ xs) ++ ys)) e ∙ get_behind xs ys k
-
 -- a walk that visits the part at the place of its visits
 pub walk_next : (s : Parts) (roots before : List ℕ) (v : ℕ) (c : Coding) (x : ℕ) (p : Part)
     → IsWalk s roots before v c → slice_get (before ++ c.queue) v ≡ Some x
@@ -74,8 +77,7 @@ walk_next s roots before v c x p w at is below =
     ap (λ q. before ++ q) joined ∙ sym (append_assoc before c.queue more) in
     record {
       met =
-          met_in_next (parts_graph s ++ parts_held s) roots m (before ++ (with_part c p).queue) v x w.met at
-          (all ∙ sym met.cells ∙ ap (λ (d : Content). met_all m d.refs) (sym is));
+          met_in_next _ _ v w.met at (all ∙ sym met.cells ∙ ap (λ (d : Content). met_all m d.refs) (sym is));
       nodes = ap (λ l. met_all l p.nodes) w.nodes ∙ met.nodes ∙ ap (nodes_met n) (sym all);
       records = ap (λ l. met_all l p.records) w.records ∙ met.records ∙ ap (records_met n r) (sym all);
       nodes_below = w.nodes_below;
@@ -104,15 +106,6 @@ pub trail_begun : {s : Parts} {roots before : List ℕ} {c : Coding} {bytes out 
 trail_begun {bytes = bytes} {out = out} w =
     record { walk = rw add-zero w; written = λ end e f. (sym (append-nil bytes), sym (append-nil out)) }
 
--- more cells behind them
-more_written : (s : Parts) (front apart cells bytes out some more then : List ℕ) (end : Coding)
-    → AreWritten s front apart cells bytes out end → AreWritten s bytes out some more then end
-    → AreWritten s front apart (cells ++ some) more then end
-more_written s front apart cells bytes out some more then end old new = (
-  rw (new.0, old.0) (simp (filter-append, map-append, flat_map-append, append_assoc)),
-  rw (new.1, old.1) (simp (filter-append, map-append, flat_map-append, append_assoc)),
-)
-
 -- the visited cells of a queue, once the next one is visited
 visited_next : (c : Coding) (p : Part) (k x : ℕ) → slice_get c.queue k ≡ Some x
     → take (k + 1) (with_part c p).queue ≡ take k c.queue ++ x ∷ []
@@ -138,14 +131,16 @@ module _ {s : Parts} {roots before : List ℕ} {k : ℕ} {front apart : List ℕ
         record {
           walk =
               rw (← v) (walk_next s roots before (length before + k) c x p t.walk
-              (get_behind before c.queue k ∙ at) is below);
+              (get-append_right before c.queue k x at) is below);
           written = λ end e f.
               let kept = renamed_kept p e f (met_all_has p.nodes c.nodes) (met_all_has p.records c.records) in
-              rw (visited_next c p k x at)
-              (more_written s front apart (take k c.queue) bytes out (x ∷ []) put then end
-              (t.written end (extends_more (met_all_extends p.nodes c.nodes) e)
-              (extends_more (met_all_extends p.records c.records) f))
-              (written end (ap (λ q. cell_code (part_content q)) (sym kept) ∙ sym (append-nil _))));
+              let old = t.written end (extends_more (met_all_extends p.nodes c.nodes) e)
+              (extends_more (met_all_extends p.records c.records) f) in
+              let new = written end (ap (λ q. cell_code (part_content q)) (sym kept) ∙ sym (append-nil _)) in
+              rw (visited_next c p k x at) (
+                rw (new.0, old.0) (simp (filter-append, map-append, flat_map-append, append_assoc)),
+                rw (new.1, old.1) (simp (filter-append, map-append, flat_map-append, append_assoc)),
+              );
         }
 
     -- a node is written behind the others, and a record apart
@@ -210,4 +205,101 @@ module _ {s : Parts} {roots before : List ℕ} {k : ℕ} {front apart : List ℕ
           },
           subst (λ q. AreWritten s front apart q bytes out c) (take_all k c.queue l)
               (t.written c (extends_itself c.nodes) (extends_itself c.records)),
+        )
+
+-- ---- the graph
+
+-- what was met before is counted apart
+counted : (keep : List ℕ → List ℕ) (f : ℕ → Part) → ((xs ys : List ℕ) → keep (xs ++ ys) ≡ keep xs ++ keep ys)
+    → (before queue all : List ℕ) (count n : ℕ) → all ≡ keep (before ++ queue) → count ≡ length all
+    → n ≡ length (keep before) → length (map f (keep queue)) ≡ count - n
+counted keep f append before queue all count n e count_is n_is =
+    let many = ap length (e ∙ append before queue) ∙ length-append (keep before) (keep queue) in
+    omega (arith, length-map (keep queue) f, many)
+
+-- the counts are set once all is visited, and the records come behind the nodes
+pub graph_written : {s : Parts} {roots before : List ℕ} {v : ℕ} {c : Coding} → IsWalk s roots before v c
+    → (old : List ℕ) {put apart set end : List ℕ} {place nodes others n r : ℕ} → place ≡ length old
+    → put ≡ (old ++ 0 ∷ 0 ∷ []) ++ part_codes (nodes_by c s c.queue) → apart ≡ part_codes (records_by c s c.queue)
+    → nodes ≡ length c.nodes → nodes < 255 → others ≡ length c.records → others < 255
+    → n ≡ length (nodes_met (length s.nodes) before)
+    → r ≡ length (records_met (length s.nodes) (length s.records) before)
+    → set ≡ take place put ++ ((nodes - n) ∷ (others - r) ∷ drop (place + 2) put) → end ≡ set ++ apart
+    → end ≡ old ++ graph_code (nodes_by c s c.queue) (records_by c s c.queue)
+graph_written {s} {before} {c} w old {nodes = nodes} {others = others} {n = n} {r = r} hp hc ha en few er least hn hr
+    hs he =
+    let ns = nodes_by c s c.queue in
+    let rs = records_by c s c.queue in
+    let behind = 0 ∷ 0 ∷ part_codes ns in
+    let nodes_are : length ns ≡ nodes - n =
+    counted (nodes_met _) _ (nodes_append _) before c.queue c.nodes nodes n w.nodes en hn in
+    let records_are : length rs ≡ others - r =
+    counted (records_met _ _) _ (records_append _ _) before c.queue c.records others r w.records er hr in
+    rw (he, hs, ha, hp, hc ∙ append_assoc old (0 ∷ 0 ∷ []) (part_codes ns), take-append_seam old behind, append_assoc)
+    (rw (drop-append-add old behind 2, small_code (length ns) (omega arith), small_code (length rs) (omega arith))
+    (rw (nodes_are, records_are, codes_append ns rs) refl))
+
+-- ---- the front of canonical parts
+
+-- functions that agree on a list agree on it in front of a longer one
+front_alike : {A : Type 0} {xs ys : List ℕ} (f g : ℕ → A) → Extends xs ys → ((x : ℕ) → Has xs x → f x ≡ g x)
+    → take (length xs) (map f ys) ≡ map g xs
+front_alike {A} {xs} f g e same = rw (e.is, map-append f xs e.rest, ← length-map xs f, take-append_seam) (go xs same)
+  where
+    go : (xs : List ℕ) → ((x : ℕ) → Has xs x → f x ≡ g x) → map f xs ≡ map g xs
+    go [] h = refl
+    go (x ∷ xs) h =
+        let here = h x (has_at (x ∷ xs) 0 x refl) in
+        let rest = go xs (λ y k. h y (ap (λ t. nat_eq y x || t) k ∙ or-true (nat_eq y x))) in
+        cc
+
+module _ (fixed : ℕ) (s : Parts) (h : ArePartsInRange fixed s) where
+  -- a walk begins with the fixed nodes in the queue
+  pub front_begun : IsWalk s (numbers_from 0 fixed) [] 0 (record {
+    nodes_below = length s.nodes;
+    records_below = length s.records;
+    nodes = numbers_from 0 fixed;
+    records = [];
+    queue = numbers_from 0 fixed;
+  })
+  front_begun =
+      let first = numbers_from 0 fixed in
+      let l : fixed ≤ length s.nodes = h.fixed_in_range in
+      let below = numbers_all (λ x. x < length s.nodes) 0 fixed (λ x g k. omega arith) in
+      record {
+        met = refl;
+        nodes = sym (simp append-nil at (nodes_of (length s.nodes) (length s.records) first [] below));
+        records = sym (simp append-nil at (records_of (length s.nodes) (length s.records) first [] below (All-nil _)));
+        nodes_below = refl;
+        records_below = refl;
+        graph = numbers_all (λ x. x < length s.nodes + length s.records) 0 fixed (λ x g k. omega arith);
+      }
+
+  module _ {d : Coding} (w : IsWalk s (numbers_from 0 fixed) [] (length (parts_graph s ++ parts_held s)) d) where
+    -- what it met is what the fixed nodes reach, and has numbers
+    queue_is : d.queue ≡ front_order fixed s
+    queue_is = w.met ∙ front_same fixed s h
+
+    pub nodes_are : d.nodes ≡ front_nodes fixed s
+    nodes_are = w.nodes ∙ ap (nodes_met (length s.nodes)) queue_is
+
+    pub records_are : d.records ≡ front_records fixed s
+    records_are = w.records ∙ ap (records_met (length s.nodes) (length s.records)) queue_is
+
+    -- and it is what is written
+    pub front_written : graph_code (nodes_by d s d.queue) (records_by d s d.queue)
+        ≡ front_code (canonical_front fixed s) (canonical_parts fixed s)
+    front_written =
+        let fn = front_nodes fixed s in
+        let fr = front_records fixed s in
+        let met = front_met fixed s h in
+        let more = nodes_extended fixed s h fn fr met in
+        let others = records_extended fixed s h fn fr met in
+        let kept = λ (p : Part) (c : IsPartMet fn fr p). renamed_kept p more others c.0 c.1 in
+        rw (
+          nodes_are,
+          records_are,
+          queue_is,
+          front_alike _ _ more (λ x g. kept (part_at s.nodes x) (met.nodes_closed x g)),
+          front_alike _ _ others (λ y g. kept (part_at s.records y) (met.records_closed y g)),
         )

@@ -1,14 +1,16 @@
 -- Values that are each made into a part: what the parts say of the values, and the values of the parts.
+use Rattle.std.proofs.Common.{arith, subst}
 use Rattle.std.specs.Prelude.{◌≡◌, ℕ, ◌<◌, List, [], ◌∷◌, map, length, slice_get, Option, Some, None, All, refl}
 use Rattle.std.specs.List.{AllZip}
-use Rattle.std.proofs.Common.{subst}
-use Rattle.std.proofs.lemmas.List.{length-map}
-use Rattle.std.proofs.lemmas.List.Elements.{All-nil, All-cons, All-head, All-tail, All-map, All-weaker}
-use Rattle.tree_machine.proofs.Lists.{get_at}
+use Rattle.std.proofs.lemmas.List.{get_or-map, length-map}
+use Rattle.std.proofs.lemmas.List.Elements.{All-map, All-weaker}
 use Rattle.tree_machine.specs.Cells.{IsPairedOrNone}
 use Rattle.tree_machine.specs.Parts.{Part, part_at, ArePartsPaired, IsPartBelow}
+use Rattle.tree_machine.specs.Laws.Cells.{AllZip-weaker}
 use Rattle.tree_machine.specs.Laws.Codes.{map_tells}
+use Rattle.tree_machine.specs.Laws.MetLists.{map_zip}
 use Rattle.tree_machine.specs.Laws.PartsBy.{part_map_at}
+use Rattle.tree_machine.proofs.Lists.{get_at}
 
 -- ---- lists of values
 
@@ -16,16 +18,13 @@ module _ {A B : Type 0} (f : A → B) where
   -- what holds of the values of a map
   pub from_map : (P : A → Type 0) (Q : B → Type 0) → ((a : A) → Q (f a) → P a) → (xs : List A) → All Q (map f xs)
       → All P xs
-  from_map P Q back [] h = All-nil P
-  from_map P Q back (x ∷ xs) h =
-      All-cons P x xs (back x (All-head Q (f x) (map f xs) h)) (from_map P Q back xs (All-tail Q (f x) (map f xs) h))
+  from_map P Q back xs h k d l =
+      back _ (rw (get_or-map f xs k d (f d) l) at (h k (f d) (omega (arith, l, length-map xs f))))
 
   module _ (P : A → A → Type 0) (Q : B → B → Type 0) where
     pub zip_map : ((a b : A) → P a b → Q (f a) (f b)) → (xs ys : List A) → AllZip P xs ys
         → AllZip Q (map f xs) (map f ys)
-    zip_map to [] [] h = tt
-    zip_map to (x ∷ xs) (y ∷ ys) h = (to x y h.0, zip_map to xs ys h.1)
-    zip_map to _ _ h = absurd h
+    zip_map to xs ys h = map_zip Q f f xs ys (AllZip-weaker P _ to xs ys h)
 
     pub zip_unmap : ((a b : A) → Q (f a) (f b) → P a b) → (xs ys : List A) → AllZip Q (map f xs) (map f ys)
         → AllZip P xs ys

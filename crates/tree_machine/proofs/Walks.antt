@@ -34,21 +34,22 @@ met_in_done cells roots n (suc m) e =
     rw (add-suc n m, met_in_done cells roots n m e, past)
 
 -- so the walk has met all
-pub met_in_end : (cells : List Content) (roots order : List ℕ) (n : ℕ) → order ≡ met_in cells roots n → n < length cells
-    → slice_get order n ≡ None → order ≡ order_of cells roots
-met_in_end cells roots order n e l h =
+pub met_in_end : (cells : List Content) (roots : List ℕ) {order : List ℕ} {n : ℕ} → order ≡ met_in cells roots n
+    → n < length cells → slice_get order n ≡ None → order ≡ order_of cells roots
+met_in_end cells roots {n = n} e l h =
     let rest : n + (length cells - n) ≡ length cells = omega arith in
     e ∙ sym (met_in_done cells roots n (length cells - n) (rw e at h)) ∙ ap (met_in cells roots) rest
 
 -- what is visited is a cell
-pub visit_in_range : (cells : List Content) (roots order : List ℕ) (n x : ℕ) → IsRooted cells roots
+pub visit_in_range : {cells : List Content} {roots order : List ℕ} (n : ℕ) {x : ℕ} → IsRooted cells roots
     → order ≡ met_in cells roots n → slice_get order n ≡ Some x → x < length cells
-visit_in_range cells roots order n x h e at = (met_in_order cells roots h n).below x (rw e at (has_at order n x at))
+visit_in_range {order = order} n h e at = (met_in_order _ _ h n).below _ (rw e at (has_at order _ _ at))
 
 -- one visit more
-pub met_in_next : (cells : List Content) (roots order after : List ℕ) (n x : ℕ) → order ≡ met_in cells roots n
-    → slice_get order n ≡ Some x → after ≡ met_all order (content_at cells x).refs → after ≡ met_in cells roots (n + 1)
-met_in_next cells roots order after n x e at h = rw (add-one n, ← e, at) h
+pub met_in_next : (cells : List Content) (roots : List ℕ) {order after : List ℕ} (n : ℕ) {x : ℕ}
+    → order ≡ met_in cells roots n → slice_get order n ≡ Some x → after ≡ met_all order (content_at cells x).refs
+    → after ≡ met_in cells roots (n + 1)
+met_in_next cells roots n e at h = rw (add-one n, ← e, at) h
 
 -- the content of a cell is what is at its number
 pub content_is : (cells : List Content) (x : ℕ) (c : Content) → x < length cells → c ≡ get_or cells x c
@@ -56,12 +57,11 @@ pub content_is : (cells : List Content) (x : ℕ) (c : Content) → x < length c
 content_is cells x c l e = rw (slice_get-get_or cells x c l) (sym e)
 
 -- the step of a loop that renames cells
-pub rename_next : (cells : List Content) (order seen : List ℕ) (done after : List Content) (i : ℕ) (c r : Content)
+pub rename_next : (cells : List Content) {done after : List Content} {order seen : List ℕ} {i : ℕ} {c r : Content}
     → All (λ x. x < length cells) order → seen ≡ order → i < length seen → c ≡ get_or cells (get_or seen i 0) c
-    → r ≡ renamed order c →
-    done ≡ map (λ x. renamed order (content_at cells x)) (take i order) → after ≡ done ++ r ∷ []
+    → r ≡ renamed order c → done ≡ map (λ x. renamed order (content_at cells x)) (take i order) → after ≡ done ++ r ∷ []
     → after ≡ map (λ x. renamed order (content_at cells x)) (take (i + 1) order)
-rename_next cells order seen done after i c r range see l e f h g =
+rename_next cells {order = order} {i = i} {c = c} range see l e f h g =
     let within : i < length order = omega (arith, ap length see) in
     let same = f ∙ ap (renamed order) (sym (content_is cells (get_or order i 0) c (range i 0 within) (rw see at e))) in
     g ∙ (λ i. h i ++ same i ∷ []) ∙ sym (map_more (λ x. renamed order (content_at cells x)) order i 0 within)

@@ -13,17 +13,13 @@ loop-root-preserved c = record {
 
 pub visit-requires : goal.visit-requires
 visit-requires c = record {
-  cell_in_range =
-      visit_in_range c.args.cells.now c.args.roots.now c.loop-visits.order.order.items c.loop-visits.visits
-      c.in-Some.cell c.requires c.loop-visits.invariant.order (sym c.in-Some.ensures);
+  cell_in_range = visit_in_range _ c.requires c.loop-visits.invariant.order (sym c.in-Some.ensures);
   refs_in_range = rw c.loop-visits.invariant.range c.requires.refs_in_range;
 }
 
 pub loop-visits-preserved : goal.loop-visits-preserved
 loop-visits-preserved c = record {
-  order = met_in_next c.args.cells.now c.args.roots.now c.loop-visits.order.order.items c.visit.new.self.order.items
-      c.loop-visits.visits c.in-Some.cell c.loop-visits.invariant.order (sym c.in-Some.ensures)
-      c.in_ok-visit-in-Some.ensures.order;
+  order = met_in_next _ _ _ c.loop-visits.invariant.order (sym c.in-Some.ensures) c.in_ok-visit-in-Some.ensures.order;
   range = c.in_ok-visit-in-Some.ensures.range ∙ c.loop-visits.invariant.range;
 }
 
@@ -34,6 +30,5 @@ returns-clause-order c =
           (let end : c.loop-visits.visits ≡ length c.args.cells.now = omega arith in
           c.loop-visits.invariant.order ∙ ap (met_in c.args.cells.now c.args.roots.now) end)
       | then-loop-visits-test+in-None w ↦
-          met_in_end c.args.cells.now c.args.roots.now c.loop-visits.order.order.items c.loop-visits.visits
-          c.loop-visits.invariant.order w.loop-visits-test.true (sym w.in-None.ensures)
+          met_in_end _ _ c.loop-visits.invariant.order w.loop-visits-test.true (sym w.in-None.ensures)
     ]

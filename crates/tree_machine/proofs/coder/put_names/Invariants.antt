@@ -1,5 +1,5 @@
 use Rattle.std.proofs.Common.{◌≡◌, ◌+◌, length, take}
-use Rattle.tree_machine.proofs.NamesWritten.{AreNamed}
+use Rattle.tree_machine.proofs.Codings.{AreNamed}
 use Rattle.tree_machine.proofs.coder.put_names.Given as goal
 
 -- the names so far are numbered and written

@@ -1,7 +1,7 @@
 use Rattle.std.proofs.Common.{◌∙◌, ap, arith, get_or, take}
 use Rattle.std.specs.Prelude.{Some}
 use Rattle.std.proofs.lemmas.List.{map_more}
-use Rattle.tree_machine.proofs.NamesWritten.{named_next}
+use Rattle.tree_machine.proofs.Codings.{named_next}
 use Rattle.tree_machine.proofs.coder.put_stack.Goals as goal
 
 pub loop-index-preserved : goal.loop-index-preserved

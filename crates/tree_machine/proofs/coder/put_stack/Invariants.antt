@@ -1,5 +1,5 @@
 use Rattle.std.proofs.Common.{◌≡◌, ◌+◌, length, map, take, Some}
-use Rattle.tree_machine.proofs.NamesWritten.{AreNamed}
+use Rattle.tree_machine.proofs.Codings.{AreNamed}
 use Rattle.tree_machine.proofs.coder.put_stack.Given as goal
 
 -- the names so far are numbered and written

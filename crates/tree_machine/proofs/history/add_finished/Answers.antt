@@ -1,10 +1,7 @@
-use Rattle.std.proofs.Common.{◌∙◌, sym, arith}
-use Rattle.tree_machine.proofs.Histories.{one_more_finished}
+use Rattle.std.proofs.Common.{◌∙◌, sym}
+use Rattle.tree_machine.proofs.Runs.{one_more}
 use Rattle.tree_machine.proofs.history.add_finished.Goals as goal
 
 pub loop-index-preserved : goal.loop-index-preserved
 loop-index-preserved c =
-    one_more_finished c.args.finished.now.items c.loop-index.finished.items c.push.new.self.items c.args.thread
-    c.loop-index.index c.args.replies c.in-Some.reply
-    (omega (arith, c.loop-index-test.true, c.len-index-end.ensures.value)) (sym c.get.ensures ∙ c.in-Some.is)
-    c.loop-index.invariant c.in_ok-push.ensures.items
+    one_more _ _ _ _ (sym c.get.ensures ∙ c.in-Some.is) c.loop-index.invariant c.in_ok-push.ensures.items

@@ -1,10 +1,8 @@
 use Rattle.std.proofs.Common.{ap, get_or}
-use Rattle.tree_machine.proofs.Histories.{one_thread_more}
+use Rattle.tree_machine.proofs.Runs.{one_thread_more}
 use Rattle.tree_machine.proofs.history.begun_ops.Goals as goal
 
 pub loop-t-preserved : goal.loop-t-preserved
 loop-t-preserved g c =
-    one_thread_more (λ thread. thread.notes) c.loop-t.begun.items c.add_begun.new.begun.items c.args.threads.now
-    c.loop-t.t
-    (get_or c.args.threads.now c.loop-t.t c.index-threads-t.result) c.loop-t-test.true
+    one_thread_more (λ thread. thread.notes) _ c.loop-t-test.true
     (ap (get_or c.args.threads.now c.loop-t.t) c.index-threads-t.is) c.loop-t.invariant c.in_ok-add_begun.ensures

@@ -1,6 +1,6 @@
 use Rattle.std.proofs.Common.{◌∙◌, ap, ◌++◌}
 use Rattle.std.proofs.lemmas.Result.{on_ok_weaker}
-use Rattle.tree_machine.proofs.GraphsWritten.{graph_written}
+use Rattle.tree_machine.proofs.Trails.{graph_written}
 use Rattle.tree_machine.proofs.part_code.visit_graph.Goals as goal
 
 pub returns-clause-written : goal.returns-clause-written

@@ -9,12 +9,6 @@ use Rattle.tree_machine.proofs.part_code.visit_queue.Goals as goal
 pub loop-place-init : goal.loop-place-init
 loop-place-init g c = trail_begun c.requires.1.1.1
 
-pub visit_cell-requires-clause-nodes : goal.visit_cell-requires-clause-nodes
-visit_cell-requires-clause-nodes g c = sym c.loop-place.invariant.walk.nodes_below
-
-pub visit_cell-requires-clause-records : goal.visit_cell-requires-clause-records
-visit_cell-requires-clause-records g c = sym c.loop-place.invariant.walk.records_below
-
 pub loop-place-preserved : goal.loop-place-preserved
 loop-place-preserved g c =
     trail_next c.loop-place.invariant c.requires.1.0.1 (sym c.in-Some.ensures) c.visit_cell.new.coder

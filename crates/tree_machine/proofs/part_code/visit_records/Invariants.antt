@@ -1,4 +1,4 @@
-use Rattle.tree_machine.proofs.PartsLeft.{AreLeft}
+use Rattle.tree_machine.proofs.VisitedParts.{AreLeft}
 use Rattle.tree_machine.proofs.part_code.visit_records.Given as goal
 
 -- what is left to visit makes the coding and the bytes that all of them make

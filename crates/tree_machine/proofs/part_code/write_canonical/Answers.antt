@@ -1,9 +1,6 @@
-use Rattle.std.proofs.Common.{append_assoc, refl, sym, ap, ◌∙◌, ◌++◌}
-use Rattle.std.proofs.lemmas.Result.{on_ok_weaker}
-use Rattle.tree_machine.specs.Canonical.{canonical_front, canonical_parts}
-use Rattle.tree_machine.specs.Flat.{behind_code}
+use Rattle.std.proofs.Common.{append_assoc, refl, sym}
 use Rattle.tree_machine.specs.Laws.Canonical.{fixed_cells}
-use Rattle.tree_machine.proofs.FrontCodes.{front_begun, front_written, nodes_are, records_are}
+use Rattle.tree_machine.proofs.Trails.{front_begun, front_written, nodes_are, records_are}
 use Rattle.tree_machine.proofs.part_code.write_canonical.Goals as goal
 
 pub visit_graph-requires : goal.visit_graph-requires
@@ -27,11 +24,9 @@ visit_behind-requires g c =
 pub returns : goal.returns
 returns g c =
     let walked = rw (c.in_ok-enqueue_first.ensures, c.in_ok-restart.ensures) at c.in_ok-visit_graph.ensures.walked in
-    let front = front_written c.args.fixed _ c.requires walked in
-    let s = g.P.Parts.parts c.args.parts.now in
-    let rest = behind_code (canonical_front c.args.fixed s) (canonical_parts c.args.fixed s) in
-    on_ok_weaker c.visit_behind.result
-    (λ behind. behind
-    ∙ ap (λ l. l ++ rest) (c.in_ok-visit_graph.ensures.written ∙ (λ i. c.buffer.view_is i ++ front i))
-    ∙ append_assoc c.args.buffer.now _ rest)
-    c.visit_behind.ensures
+    rw (
+      c.in_ok-visit_graph.ensures.written,
+      c.buffer.view_is,
+      front_written c.args.fixed _ c.requires walked,
+      append_assoc,
+    ) at c.visit_behind.ensures

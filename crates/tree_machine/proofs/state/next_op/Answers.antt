@@ -1,25 +1,13 @@
 -- The next operation is the one found, if it may begin.
-use Rattle.std.proofs.Common.{rules, ◌≡◌, ◌<◌, length, get_or, refl, arith}
+use Rattle.std.proofs.Common.{rules, length, refl, arith}
 use Rattle.std.proofs.lemmas.Option.{slice_get_read}
-use Rattle.tree_machine.proofs.Steps.{next_due, next_not_due}
+use Rattle.tree_machine.proofs.States.{next_due}
 use Rattle.tree_machine.proofs.state.next_op.Goals as goal
 
-pub returns-then-is_due : goal.returns-then-is_due
-returns-then-is_due g c =
+pub returns-then-is_due-clause-value : goal.returns-then-is_due-clause-value
+returns-then-is_due-clause-value g c =
     let threads = c.threads.result.now in
-    let ops = c.in_ok-ops.ops.now in
     let found = c.in_ok-ops.ensures.lookup in
-    let there : c.from.result < length threads = omega (arith, found) in
-    let is : ops ≡ get_or threads c.from.result ops = search rules in
-    record {
-      value = next_due c.args.program.now _ c.args.t c.args.thread.now c.threads.ensures.value c.from.ensures
-          c.len.ensures.value (slice_get_read threads (length threads) c.from.result ops refl there is)
-          c.in_ok-op.ensures c.get-2.ensures c.if-is_due.ensures;
-      limits = c.threads.ensures.limits;
-    }
-
-pub returns-else-is_due : goal.returns-else-is_due
-returns-else-is_due g c = record {
-  value = next_not_due c.args.program.now _ c.args.t c.args.thread.now c.if-is_due.ensures;
-  limits = tt;
-}
+    next_due c.args.program.now _ c.args.t c.args.thread.now c.threads.ensures.value c.from.ensures c.len.ensures.value
+    (slice_get_read threads (length threads) c.from.result c.in_ok-ops.ops.now refl (omega (arith, found))
+    (search rules)) c.in_ok-op.ensures c.get-2.ensures c.if-is_due.ensures

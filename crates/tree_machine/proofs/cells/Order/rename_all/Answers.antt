@@ -3,7 +3,5 @@ use Rattle.tree_machine.proofs.cells.Order.rename_all.Goals as goal
 
 pub loop-cell-preserved : goal.loop-cell-preserved
 loop-cell-preserved c =
-    rename_next c.args.cells.now c.args.self.now.order.items c.deref-cell-items.result.now c.loop-cell.answer.items
-    c.push.new.self.items c.loop-cell.cell-index c.index-cells-cell.result c.in_ok-renamed.field-0
-    c.requires.cells_in_range c.deref-cell-items.ensures.value c.loop-cell-test.true c.index-cells-cell.is
-    c.in_ok-renamed.ensures c.loop-cell.invariant c.in_ok-push.ensures.items
+    rename_next _ c.requires.cells_in_range c.deref-cell-items.ensures.value c.loop-cell-test.true
+    c.index-cells-cell.is c.in_ok-renamed.ensures c.loop-cell.invariant c.in_ok-push.ensures.items

@@ -2,7 +2,7 @@ use Rattle.std.proofs.Common.{◌<◌, ◌∙◌, ap, arith, length, take}
 use Rattle.std.proofs.lemmas.List.{with_items_is}
 use Rattle.tree_machine.specs.Coding.{Coding}
 use Rattle.tree_machine.proofs.VisitedParts.{stack_all, names_all}
-use Rattle.tree_machine.proofs.NamesWritten.{part_visited}
+use Rattle.tree_machine.proofs.Codings.{part_visited}
 use Rattle.tree_machine.proofs.coder.Coder.visit.Goals as goal
 
 pub put_names-requires-2-clause-known : goal.put_names-requires-2-clause-known

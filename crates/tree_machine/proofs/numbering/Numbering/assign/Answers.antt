@@ -1,6 +1,5 @@
 use Rattle.std.proofs.Common.{◌+◌, ◌∙◌, arith, length-set}
-use Rattle.tree_machine.proofs.Numbered.{unmet, order_room, next_numbers, next_order, next_known}
-use Rattle.tree_machine.proofs.Numbers.{met_new}
+use Rattle.tree_machine.proofs.Numbers.{unmet, order_room, next_numbers, next_order, next_known, met_new}
 use Rattle.tree_machine.proofs.numbering.Numbering.assign.Goals as goal
 
 pub push_reserved-requires : goal.push_reserved-requires

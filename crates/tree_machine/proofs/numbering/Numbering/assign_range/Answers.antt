@@ -1,6 +1,6 @@
 use Rattle.std.proofs.Common.{◌+◌, ◌∙◌, ap}
 use Rattle.tree_machine.specs.Cells.{met}
-use Rattle.tree_machine.proofs.Passes.{run_next}
+use Rattle.tree_machine.proofs.Numbers.{run_next}
 use Rattle.tree_machine.proofs.numbering.Numbering.assign_range.Goals as goal
 
 pub loop-i-preserved : goal.loop-i-preserved

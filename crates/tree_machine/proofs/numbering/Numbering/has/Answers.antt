@@ -1,4 +1,4 @@
-use Rattle.tree_machine.proofs.Numbered.{has_number, no_number}
+use Rattle.tree_machine.proofs.Numbers.{has_number, no_number}
 use Rattle.tree_machine.proofs.numbering.Numbering.has.Goals as goal
 
 pub returns-clause-has : goal.returns-clause-has

@@ -1,5 +1,5 @@
 use Rattle.std.proofs.Common.{arith}
-use Rattle.tree_machine.proofs.Numbered.{order_bounded}
+use Rattle.tree_machine.proofs.Numbers.{order_bounded}
 use Rattle.tree_machine.proofs.numbering.Numbering.len.Goals as goal
 
 pub returns-clause-small : goal.returns-clause-small

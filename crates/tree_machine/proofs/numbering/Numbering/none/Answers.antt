@@ -1,4 +1,4 @@
-use Rattle.tree_machine.proofs.Numbered.{nothing_met, nothing_twice}
+use Rattle.tree_machine.proofs.Numbers.{nothing_met, nothing_twice}
 use Rattle.tree_machine.proofs.numbering.Numbering.none.Goals as goal
 
 pub invariant_of-result-clause-has_numbers : goal.invariant_of-result-clause-has_numbers

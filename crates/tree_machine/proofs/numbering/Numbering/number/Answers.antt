@@ -1,4 +1,4 @@
-use Rattle.tree_machine.proofs.Numbered.{number_bounded}
+use Rattle.tree_machine.proofs.Numbers.{number_bounded}
 use Rattle.tree_machine.proofs.numbering.Numbering.number.Goals as goal
 
 pub returns-clause-small : goal.returns-clause-small

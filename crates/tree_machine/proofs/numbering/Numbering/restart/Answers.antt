@@ -1,5 +1,5 @@
 use Rattle.std.proofs.Common.{◌∙◌, ap, length}
-use Rattle.tree_machine.proofs.Numbered.{made_or_left, nothing_twice}
+use Rattle.tree_machine.proofs.Numbers.{made_or_left, nothing_twice}
 use Rattle.tree_machine.proofs.numbering.Numbering.restart.Goals as goal
 
 pub invariant_of-self-2-clause-has_numbers : goal.invariant_of-self-2-clause-has_numbers

@@ -1,7 +1,6 @@
 use Rattle.std.proofs.Common.{◌<◌, length, sym, ◌∙◌, ap, subst, arith}
 use Rattle.std.specs.Prelude.{slice_get, Some, nat_eq}
 use Rattle.std.proofs.lemmas.Nat.Bits.{shr_and_one}
-use Rattle.std.proofs.lemmas.Option.{slice_get_past}
 use Rattle.tree_machine.specs.Laws.Packed.{reply_at}
 use Rattle.tree_machine.specs.Packed.{replies_in}
 use Rattle.tree_machine.proofs.replies.Replies.get.Goals as goal
@@ -13,7 +12,3 @@ returns-then-index-len c =
     (omega (arith, c.if-index-len.true, c.len.ensures.value)) in
     ap (λ b. Some (nat_eq b 1)) (shr_and_one c.self.inside.number c.args.index)
     ∙ (sym (reply_at c.self.inside.number c.args.index within) ∙ ap (λ l. slice_get l c.args.index) c.self.view_is)
-
-pub returns-else-index-len : goal.returns-else-index-len
-returns-else-index-len c =
-    sym (slice_get_past c.args.self.now c.args.index (omega (arith, c.if-index-len.false, c.len.ensures.value)))

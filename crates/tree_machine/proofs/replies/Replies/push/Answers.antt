@@ -5,17 +5,17 @@ use Rattle.tree_machine.proofs.replies.Replies.push.Goals as goal
 
 pub overflow_add-self : goal.overflow_add-self
 overflow_add-self c =
-    Fits-bits 7 tt (pushed c.self.inside.number c.added.result c.len.result c.args.reply c.args.self.now c.self.view_is
-    c.self.invariant.0 c.self.invariant.1 c.requires c.len.ensures.value c.added.ensures).0
+    let more = pushed _ _ _ _ _ c.self.view_is c.self.invariant.0 c.self.invariant.1 c.requires c.len.ensures.value
+    c.added.ensures in
+    Fits-bits 7 tt more.0
 
 pub invariant_of-self : goal.invariant_of-self
-invariant_of-self c = (
-  omega (arith, c.self.invariant.0),
-  (pushed c.self.inside.number c.added.result c.len.result c.args.reply c.args.self.now c.self.view_is
-      c.self.invariant.0 c.self.invariant.1 c.requires c.len.ensures.value c.added.ensures).0,
-)
+invariant_of-self c =
+    let more = pushed _ _ _ _ _ c.self.view_is c.self.invariant.0 c.self.invariant.1 c.requires c.len.ensures.value
+    c.added.ensures in
+    (omega (arith, c.self.invariant.0), more.0)
 
 pub returns : goal.returns
 returns c =
-    (pushed c.self.inside.number c.added.result c.len.result c.args.reply c.args.self.now c.self.view_is
-    c.self.invariant.0 c.self.invariant.1 c.requires c.len.ensures.value c.added.ensures).1
+    (pushed _ _ _ _ _ c.self.view_is c.self.invariant.0 c.self.invariant.1 c.requires c.len.ensures.value
+    c.added.ensures).1

@@ -7,6 +7,6 @@ pub loop-thread-preserved : goal.loop-thread-preserved
 loop-thread-preserved c =
     let counts = c.args.self.now in
     let within : c.loop-thread.thread < length counts =
-    omega (arith, c.loop-thread-test.true, length_is c.self.inside.number counts c.self.invariant.1 c.self.view_is) in
+    omega (arith, c.loop-thread-test.true, length_is c.self.invariant.1 c.self.view_is) in
     let next = take_more counts c.loop-thread.thread 0 within in
     cc

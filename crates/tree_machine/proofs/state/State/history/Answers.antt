@@ -5,5 +5,4 @@ pub unreachable-requires : goal.unreachable-requires
 unreachable-requires g c =
     c.in-None.ensures.none
     (is_history (g.M.Machine.rules c.requires.0) c.args.program.now c.args.self.now c.requires.1
-    c.in_ok-begun.begun.items c.in_ok-finished.finished.items
     (rw c.as_slice.ensures at c.in_ok-begun.ensures) (rw c.as_slice-2.ensures at c.in_ok-finished.ensures))

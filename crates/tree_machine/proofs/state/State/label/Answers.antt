@@ -1,5 +1,5 @@
 use Rattle.tree_machine.proofs.Forms.{held_in_range}
-use Rattle.tree_machine.proofs.OffsetPieces.{label_put}
+use Rattle.tree_machine.proofs.Labels.{label_put}
 use Rattle.tree_machine.proofs.state.State.label.Goals as goal
 
 pub write_code-requires-clause-places_in_range : goal.write_code-requires-clause-places_in_range

@@ -1,7 +1,7 @@
 use Rattle.std.proofs.Common.{◌≡◌, ◌++◌, [], if◌then◌else◌, append_assoc, sym, ◌∙◌}
 use Rattle.tree_machine.specs.Flat.{number_code}
 use Rattle.tree_machine.specs.Offsets.{op_log_of}
-use Rattle.tree_machine.proofs.OffsetPieces.{label_is}
+use Rattle.tree_machine.proofs.Labels.{label_is}
 use Rattle.tree_machine.proofs.state.State.label_after.Goals as goal
 
 pub returns : goal.returns

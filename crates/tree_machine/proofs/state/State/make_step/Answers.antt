@@ -2,9 +2,8 @@
 use Rattle.std.proofs.Common.{refl, ◌∙◌, ap, sym, rules, Some}
 use Rattle.std.proofs.lemmas.Option.{IfSome_then}
 use Rattle.tree_machine.specs.Step.{stepped}
-use Rattle.tree_machine.proofs.States.{ready_pieces, thread_read, thread_within, next_place_in_range, reply_room}
-use Rattle.tree_machine.proofs.States.{note_room}
-use Rattle.tree_machine.proofs.Steps.{held_or, step_made, with_held}
+use Rattle.tree_machine.proofs.States.{held_or, step_made, with_held, ready_pieces, thread_read, thread_within}
+use Rattle.tree_machine.proofs.States.{next_place_in_range, reply_room, note_room}
 use Rattle.tree_machine.proofs.state.State.make_step.Goals as goal
 
 pub act-requires-clause-place_in_range : goal.act-requires-clause-place_in_range

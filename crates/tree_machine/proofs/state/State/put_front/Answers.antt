@@ -1,8 +1,7 @@
 -- The bytes of what stayed are those between the offsets.
 use Rattle.std.proofs.Common.{◌++◌, [], if◌then◌else◌, sym, ap, ◌∙◌, append_assoc}
 use Rattle.std.proofs.lemmas.Result.{on_ok_weaker}
-use Rattle.tree_machine.specs.Offsets.{op_log_of}
-use Rattle.tree_machine.proofs.OffsetPieces.{offsets_in_order, op_log_piece, memory_piece}
+use Rattle.tree_machine.proofs.Labels.{offsets_in_order, op_log_piece, memory_piece}
 use Rattle.tree_machine.proofs.state.State.put_front.Goals as goal
 
 pub put_piece-requires : goal.put_piece-requires
@@ -28,11 +27,6 @@ returns-then-did_no_more g c =
 
 pub returns : goal.returns
 returns g c =
-    let origin = c.args.origin.now in
-    let mem = c.args.self.now.memory in
-    let front = if origin.undo.now.reads then g.M.Encode.front_code origin.offsets.front mem else [] in
-    let stated = memory_piece _ _ _ _ c.requires.offsets mem _ _ c.requires.back.same
+    let stated = memory_piece _ _ _ _ c.requires.offsets c.args.self.now.memory _ _ c.requires.back.same
     (rw c.reads.ensures at c.end-end.ensures) in
-    on_ok_weaker c.put_piece-2.result
-    (λ put. put ∙ rw (c.in_ok-put_op_log.ensures, c.as_slice.ensures, stated)
-    (append_assoc c.args.buffer.now (op_log_of c.args.self.now) front)) c.put_piece-2.ensures
+    rw (c.in_ok-put_op_log.ensures, c.as_slice.ensures, stated, append_assoc) at c.put_piece-2.ensures

@@ -18,10 +18,10 @@ write_code-requires-clause-places_in_range g c =
 pub write_behind-requires-clause-read : goal.write_behind-requires-clause-read
 write_behind-requires-clause-read g c =
     let origin = c.args.origin.now in
-    read_from (g.M.Machine.rules c.args.machine) c.args.naming g.M.Encode.own_code g.M.Encode.form_code
-    (g.M.Machine.form_of c.args.machine)
-    (cut_code g.M.Encode.front_code g.M.Encode.behind_code origin.offsets.front) c.requires.coded.0
-    origin.state.now.value c.args.self.now.memory c.requires.coded.1
+    read_from c.args.naming g.M.Encode.own_code g.M.Encode.form_code (g.M.Machine.form_of c.args.machine)
+    c.requires.coded.0 (g.M.Machine.rules c.args.machine)
+    (cut_code g.M.Encode.front_code g.M.Encode.behind_code origin.offsets.front) origin.state.now.value
+    c.args.self.now.memory c.requires.coded.1
     (sym c.requires.offsets.written ∙ c.requires.coded.2) (c.requires.memory (sym c.reads.ensures ∙ c.if-reads.true))
 
 pub returns-else-reads : goal.returns-else-reads

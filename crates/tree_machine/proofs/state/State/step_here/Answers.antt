@@ -1,7 +1,6 @@
 -- The thread has a step where it is ready, and the access makes the state after it.
 use Rattle.std.proofs.Common.{refl}
-use Rattle.tree_machine.proofs.States.{step_fits}
-use Rattle.tree_machine.proofs.Steps.{step_by}
+use Rattle.tree_machine.proofs.States.{step_by, step_fits}
 use Rattle.tree_machine.proofs.state.State.step_here.Goals as goal
 
 pub make_step-requires-clause-ready : goal.make_step-requires-clause-ready
