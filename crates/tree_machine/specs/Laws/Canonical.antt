@@ -1,12 +1,11 @@
 -- Canonical parts: they can be paired with the parts that they come from, and are equal exactly where parts can be.
 use Rattle.std.proofs.Common.{◌≡◌, ℕ, ◌+◌, ◌<◌, ◌≤◌, List, [], ◌∷◌, ◌++◌, map, length, refl, ◌∙◌, ap, subst}
-use Rattle.std.proofs.Common.{append_assoc, append-nil, arith, get_or, length-append}
+use Rattle.std.proofs.Common.{append_assoc, append-nil, arith, length-append}
 use Rattle.std.specs.Prelude.{Option, Some, None, nat_eq}
 use Rattle.std.specs.List.{All, AllByRecursion, IsDistinct}
 use Rattle.std.specs.Option.{option_map}
 use Rattle.std.proofs.lemmas.List.{length-map}
-use Rattle.std.proofs.lemmas.List.Elements.{recursion_from_All, All-from_recursion, All-from_get_or, All-append}
-use Rattle.std.proofs.lemmas.List.Elements.{All-map}
+use Rattle.std.proofs.lemmas.List.Elements.{recursion_from_All, All-from_recursion, All-from_get_or}
 use Rattle.std.proofs.lemmas.List.Folds.{list_any-append}
 use Rattle.std.proofs.lemmas.Option.{unwrap_or-slice_get}
 use Rattle.std.proofs.Math.Bool.{or-true}
@@ -17,8 +16,7 @@ use Rattle.tree_machine.specs.Parts.{Part, Parts, no_part, IsPartsPairing, IsPar
 use Rattle.tree_machine.specs.Parts.{part_cell, parts_graph, parts_held, CanPartsBePaired}
 use Rattle.tree_machine.specs.Canonical.{nodes_met, records_met, front_order, front_nodes, front_records, as_cells}
 use Rattle.tree_machine.specs.Canonical.{order_behind, met_nodes, met_records, canonical_parts}
-use Rattle.tree_machine.specs.Laws.CellLists.{numbers_all, numbers_distinct, apart_above, distinct_join}
-use Rattle.tree_machine.specs.Laws.CellLists.{raised_distinct}
+use Rattle.tree_machine.specs.Laws.CellLists.{AreDistinctIn, in_join, numbers_all, numbers_in, raised_in}
 use Rattle.tree_machine.specs.Laws.CellOrder.{Has, HasAll, RefsBelow, Extends, extends_more, has_extends}
 use Rattle.tree_machine.specs.Laws.CellOrder.{met_in_order, met_in_extends, order_closed}
 use Rattle.tree_machine.specs.Laws.CellPlaces.{place_from_has, get_place, has_at}
@@ -80,12 +78,12 @@ module _ (s : Parts) (roots nodes records behind : List ℕ)
     is = ap (records_of s) order_is ∙ records_first _ _ nodes records _ below records_below;
   }
 
--- numbers below m in front of others
-distinct_below : (m : ℕ) (xs ys : List ℕ) → IsDistinct nat_eq xs → IsDistinct nat_eq ys → All (λ x. x < m) xs
-    → All (λ y. m ≤ y) ys → IsDistinct nat_eq (xs ++ ys)
-distinct_below m xs ys d e h g =
-    distinct_join xs ys d e
-    (recursion_from_All _ xs (λ k c l. apart_above (get_or xs k c) ys (λ i b j. omega (arith, h k c l, g i b j))))
+-- what is met is in range
+met_in_range : {n : ℕ} (xs : List ℕ) → IsDistinct nat_eq xs → AllByRecursion (λ x. x < n) xs → AreDistinctIn 0 n xs
+met_in_range {n} xs distinct below = record {
+  distinct = distinct;
+  within = λ k d l. (omega arith, All-from_recursion (λ x. x < n) xs below k d l);
+}
 
 module _ (fixed : ℕ) (s : Parts) (h : ArePartsInRange fixed s) where
   -- what a walk meets names only what it meets
@@ -128,17 +126,14 @@ module _ (fixed : ℕ) (s : Parts) (h : ArePartsInRange fixed s) where
   fixed_all : (m : ℕ) → length s.nodes ≤ m → All (λ x. x < m) (numbers_from 0 fixed)
   fixed_all m l = numbers_all (λ x. x < m) 0 fixed (λ x g k. omega (arith, h.fixed_in_range))
 
-  fixed_distinct : IsDistinct nat_eq (numbers_from 0 fixed)
-  fixed_distinct = rw append-nil at (numbers_distinct 0 fixed fixed 0 (omega arith))
-
   pub fixed_cells : IsRooted (parts_graph s ++ parts_held s) (numbers_from 0 fixed)
-  fixed_cells = cells_rooted fixed s h _ (fixed_all _ (omega (arith, length-cells s))) fixed_distinct
+  fixed_cells = cells_rooted fixed s h _ (fixed_all _ (omega (arith, length-cells s))) (numbers_in 0 fixed).distinct
 
   -- what is held plays no part in it
   pub front_same : order_of (parts_graph s ++ parts_held s) (numbers_from 0 fixed) ≡ front_order fixed s
   front_same =
       order_front (parts_graph s) (parts_held s) (numbers_from 0 fixed)
-      (graph_rooted fixed s h _ (fixed_all _ (omega (arith, length-parts_graph s))) fixed_distinct)
+      (graph_rooted fixed s h _ (fixed_all _ (omega (arith, length-parts_graph s))) (numbers_in 0 fixed).distinct)
 
   pub front_met : AreMet fixed s (front_nodes fixed s) (front_records fixed s)
   front_met =
@@ -155,29 +150,16 @@ module _ (fixed : ℕ) (s : Parts) (h : ArePartsInRange fixed s) where
     rooted_behind =
         let n = length s.nodes in
         let m = length (parts_graph s) in
-        let all = length (all_cells s) in
+        let held = length (parts_held s) in
         let long : m ≡ n + length s.records = length-parts_graph s in
-        let more : all ≡ m + length (parts_held s) = length-append (parts_graph s) (parts_held s) in
-        let raised = map (λ y. n + y) records in
-        let held = numbers_from m (length (parts_held s)) in
-        let nodes_all : All (λ x. x < n) nodes = All-from_recursion _ nodes met.nodes_below in
-        let records_all : All (λ y. y < length s.records) records = All-from_recursion _ _ met.records_below in
-        let raised_all : All (λ x. (n ≤ x) × (x < m)) raised =
-        All-map (λ x. (n ≤ x) × (x < m)) _ records (λ k d l. (omega arith, omega (arith, records_all k d l))) in
-        let held_all : All (λ x. (m ≤ x) × (x < all)) held =
-        numbers_all (λ x. (m ≤ x) × (x < all)) m _ (λ x l k. (l, omega arith)) in
-        cells_rooted fixed s h (as_cells n nodes records ++ held)
-        (All-append (λ x. x < all) (as_cells n nodes records) held
-        (All-append (λ x. x < all) nodes raised (λ k d l. omega (arith, nodes_all k d l))
-        (λ k d l. omega (arith, raised_all k d l)))
-        (λ k d l. (held_all k d l).1))
-        (rw append_assoc
-        (distinct_below n nodes (raised ++ held) met.nodes_distinct
-        (distinct_below m raised held (raised_distinct n records met.records_distinct)
-        (numbers_distinct 0 0 m _ (omega arith)) (λ k d l. (raised_all k d l).1) (λ k d l. (held_all k d l).0))
-        nodes_all
-        (All-append (λ y. n ≤ y) raised held (λ k d l. (raised_all k d l).0)
-        (λ k d l. omega (arith, held_all k d l)))))
+        let more : length (all_cells s) ≡ m + held = length-append (parts_graph s) (parts_held s) in
+        let below : AreDistinctIn 0 n nodes = met_in_range nodes met.nodes_distinct met.nodes_below in
+        let raised = raised_in n _ records (met_in_range records met.records_distinct met.records_below) in
+        let graph = in_join 0 n n (n + length s.records) nodes _ (omega arith) (omega arith) (omega arith) below raised in
+        let roots =
+        in_join 0 (n + length s.records) m (m + held) (as_cells n nodes records) _ (omega arith) (omega arith)
+        (omega arith) graph (numbers_in m held) in
+        cells_rooted fixed s h _ (λ k d l. omega (arith, roots.within k d l)) roots.distinct
 
     -- they stay in front
     pub nodes_extended : Extends nodes (nodes_met (length s.nodes) (order_behind nodes records s))

@@ -1,17 +1,17 @@
 -- The cells that a walk meets, in their order: distinct, in range, and closed.
-use Rattle.std.proofs.Common.{◌≡◌, ℕ, zero, suc, ◌+◌, ◌<◌, ◌≤◌, ◌⊎◌, Bool, true, false, cond, ◌||◌, List, [], ◌∷◌}
-use Rattle.std.proofs.Common.{◌++◌, length, refl, sym, ◌∙◌, ap, subst, inl, inr, arith, append_assoc, add-suc}
+use Rattle.std.proofs.Common.{◌≡◌, ℕ, zero, suc, ◌+◌, ◌<◌, ◌≤◌, ◌⊎◌, true, List, [], ◌∷◌}
+use Rattle.std.proofs.Common.{◌++◌, length, refl, sym, ap, subst, inl, inr, arith, append_assoc, add-suc}
 use Rattle.std.proofs.Common.{add-zero, get_or, append-nil}
 use Rattle.std.specs.Prelude.{slice_get, Option, Some, None, nat_eq, ⊤, IfSome}
 use Rattle.std.specs.Cmp.{IsEquivalence}
 use Rattle.std.specs.List.{list_any, All, AllByRecursion, IsDistinct}
-use Rattle.std.proofs.lemmas.Bool.{eq-eqb, eqb-true, or_cases}
+use Rattle.std.proofs.lemmas.Bool.{cond_both, eq-eqb, eqb-true, or_cases}
 use Rattle.std.proofs.lemmas.List.Elements.{recursion_from_All, All-nil}
 use Rattle.std.proofs.lemmas.List.Folds.{list_any-append}
 use Rattle.std.proofs.lemmas.Map.Keys.{IsDistinct-push}
 use Rattle.std.proofs.lemmas.Map.Steps.{length-le_from_distinct_below}
 use Rattle.std.proofs.lemmas.Option.{slice_get_past, slice_get_within, slice_get-get_or}
-use Rattle.std.proofs.Math.Bool.{or-true}
+use Rattle.std.proofs.Math.Bool.{or-false, or-true}
 use Rattle.tree_machine.specs.Cells.{Content, met, met_all, visited, met_in, content_at, order_of, IsRooted}
 use Rattle.tree_machine.specs.Laws.CellSteps.{same_tests}
 
@@ -64,20 +64,15 @@ get_extends {xs} e k x h = rw e.is (get_append xs e.rest k x h)
 
 -- ---- one more cell
 
-met_extends_by : (order : List ℕ) (x : ℕ) (t : Bool) → Extends order (cond t order (order ++ x ∷ []))
-met_extends_by order x true = extends_itself order
-met_extends_by order x false = record { rest = x ∷ []; is = refl }
-
 pub met_extends : (order : List ℕ) (x : ℕ) → Extends order (met order x)
-met_extends order x = met_extends_by order x (list_any (nat_eq x) order)
-
-met_has_by : (order : List ℕ) (x : ℕ) (t : Bool) → list_any (nat_eq x) order ≡ t
-    → Has (cond t order (order ++ x ∷ [])) x
-met_has_by order x true h = h
-met_has_by order x false h = rw (list_any-append, has_itself x) (or-true _)
+met_extends order x =
+    cond_both (list_any (nat_eq x) order) order _ (Extends order)
+    (λ _. extends_itself order) (λ _. record { rest = x ∷ []; is = refl })
 
 pub met_has : (order : List ℕ) (x : ℕ) → Has (met order x) x
-met_has order x = met_has_by order x (list_any (nat_eq x) order) refl
+met_has order x =
+    cond_both (list_any (nat_eq x) order) order (order ++ x ∷ []) (λ o. Has o x)
+    (λ h. h) (λ h. rw (list_any-append, has_itself x) (or-true _))
 
 pub met_all_extends : (refs : List (Option ℕ)) (order : List ℕ) → Extends order (met_all order refs)
 met_all_extends [] order = extends_itself order
@@ -98,22 +93,17 @@ pub record IsOrder (n : ℕ) (order : List ℕ) : Type 0 where
 
 has_push_cases : (order : List ℕ) (x y : ℕ) → Has (order ++ x ∷ []) y → Has order y ⊎ (y ≡ x)
 has_push_cases order x y h =
-    elim (or_cases (list_any (nat_eq y) order) (nat_eq y x || false)
-    (sym (list_any-append (nat_eq y) order (x ∷ [])) ∙ h)) [
+    elim (or_cases (list_any (nat_eq y) order) (nat_eq y x) (rw (list_any-append, or-false) at h)) [
       | inl e ↦ inl e
-      | inr e ↦ elim (or_cases (nat_eq y x) false e) [ inl d ↦ inr (eqb-true y x d) | inr d ↦ cc ]
+      | inr e ↦ inr (eqb-true y x e)
     ]
 
-met_order_by : (n : ℕ) (order : List ℕ) (x : ℕ) → x < n → IsOrder n order → (t : Bool) → list_any (nat_eq x) order ≡ t
-    → IsOrder n (cond t order (order ++ x ∷ []))
-met_order_by n order x l h true e = h
-met_order_by n order x l h false e = record {
-  distinct = IsDistinct-push nat_equivalence order x h.distinct e;
-  below = λ y g. elim (has_push_cases order x y g) [ inl m ↦ h.below y m | inr m ↦ subst (λ z. z < n) (sym m) l ];
-}
-
 pub met_order : (n : ℕ) (order : List ℕ) (x : ℕ) → x < n → IsOrder n order → IsOrder n (met order x)
-met_order n order x l h = met_order_by n order x l h (list_any (nat_eq x) order) refl
+met_order n order x l h =
+    cond_both (list_any (nat_eq x) order) order _ (IsOrder n) (λ _. h) (λ e. record {
+      distinct = IsDistinct-push nat_equivalence order x h.distinct e;
+      below = λ y g. elim (has_push_cases order x y g) [ inl m ↦ h.below y m | inr m ↦ rw m l ];
+    })
 
 -- each ref is none or below n
 abbrev pub RefsBelow : ℕ → List (Option ℕ) → Type 0
@@ -138,6 +128,12 @@ all_has P (y ∷ xs) h x g =
       | inl e ↦ subst P (sym (eqb-true x y e)) h.0
       | inr e ↦ all_has P xs h.1 x e
     ]
+
+-- what holds of each one that is there holds of each element
+pub all_from_has : (P : ℕ → Type 0) (xs : List ℕ) → ((x : ℕ) → Has xs x → P x) → AllByRecursion P xs
+all_from_has P [] h = tt
+all_from_has P (x ∷ xs) h =
+    (h x (rw (has_itself x) refl), all_from_has P xs (λ y g. h y (rw g (or-true (nat_eq y x)))))
 
 pub content_all : (P : Content → Type 0) → P (record { facts = []; refs = [] }) → (cells : List Content)
     → AllByRecursion P cells → (x : ℕ) → P (content_at cells x)
@@ -196,7 +192,7 @@ get_before : {xs ys : List ℕ} → Extends xs ys → (n z : ℕ) → slice_get 
 get_before {xs} e n z at k x le h =
     let far : n < length xs = slice_get_within xs n z at in
     let there = slice_get-get_or xs k x (omega arith) in
-    there ∙ (sym (get_extends e k (get_or xs k x) there) ∙ h)
+    cc (there, get_extends e k (get_or xs k x) there, h)
 
 below_or_at : (k n : ℕ) → k < suc n → (k < n) ⊎ (k ≡ n)
 below_or_at k n l = grind arith

@@ -17,23 +17,20 @@ use Rattle.tree_machine.specs.Laws.CellOrder.{Has, all_has, has_itself, nat_equi
 pub place_paired : (P : ℕ → ℕ → Type 0) → IsOneToOne P → (xs ys : List ℕ) (a b : ℕ) → AllZip P xs ys → P a b
     → place_in xs a ≡ place_in ys b
 place_paired P one [] [] a b h p = refl
-place_paired P one [] (y ∷ ys) a b h p = absurd h
-place_paired P one (x ∷ xs) [] a b h p = absurd h
 place_paired P one (x ∷ xs) (y ∷ ys) a b h p =
     ap (λ t. cond t (Some 0) (option_map suc (place_in xs a))) (same_tests a b x y (one a b x y p h.0))
     ∙ ap (λ r. cond (nat_eq b y) (Some 0) (option_map suc r)) (place_paired P one xs ys a b h.1 p)
+place_paired P one _ _ a b h p = absurd h
 
 pub refs_renamed : (P : ℕ → ℕ → Type 0) → IsOneToOne P → (xs ys : List ℕ) → AllZip P xs ys
     → (refs sefs : List (Option ℕ)) → AllZip (IsPairedOrNone P) refs sefs
     → map (option_and_then (place_in xs)) refs ≡ map (option_and_then (place_in ys)) sefs
 refs_renamed P one xs ys z [] [] h = refl
-refs_renamed P one xs ys z [] (s ∷ sefs) h = absurd h
-refs_renamed P one xs ys z (r ∷ refs) [] h = absurd h
 refs_renamed P one xs ys z (None ∷ refs) (None ∷ sefs) h = ap (λ l. None ∷ l) (refs_renamed P one xs ys z refs sefs h.1)
-refs_renamed P one xs ys z (None ∷ refs) (Some y ∷ sefs) h = absurd h.0
-refs_renamed P one xs ys z (Some x ∷ refs) (None ∷ sefs) h = absurd h.0
 refs_renamed P one xs ys z (Some x ∷ refs) (Some y ∷ sefs) h =
     cc (place_paired P one xs ys x y z h.0, refs_renamed P one xs ys z refs sefs h.1)
+refs_renamed P one xs ys z (_ ∷ refs) (_ ∷ sefs) h = absurd h.0
+refs_renamed P one xs ys z _ _ h = absurd h
 
 -- what is in a list has a place there, and is at it
 pub place_from_has : (xs : List ℕ) (x : ℕ) → Has xs x → (k : ℕ) × (place_in xs x ≡ Some k)

@@ -1,12 +1,12 @@
 -- Bytes determine what they are of: nodes, records and what threads hold, and states.
 use Rattle.std.proofs.Common.{◌≡◌, ℕ, ◌⊎◌, List, [], ◌∷◌, ◌++◌, map, length, take, drop}
 use Rattle.std.proofs.Common.{refl, sym, ◌∙◌, ap, inl, inr, arith, append_assoc, append-nil, length-append}
-use Rattle.std.specs.Prelude.{Option}
+use Rattle.std.specs.Prelude.{Option, Some, None}
 use Rattle.std.proofs.lemmas.List.{length-map, take-append-drop}
 use Rattle.tree_machine.specs.Cells.{Content}
 use Rattle.tree_machine.specs.Parts.{Part, Parts}
-use Rattle.tree_machine.specs.Flat.{part_content, part_codes, graph_code, left_code, parts_code}
-use Rattle.tree_machine.specs.Laws.Flat.{number_read, number_split, flat_split}
+use Rattle.tree_machine.specs.Flat.{cell_code, flat, number_code, reference_number, part_content, part_codes, graph_code, left_code, parts_code}
+use Rattle.tree_machine.specs.Laws.Flat.{each_readable, facts_split, number_read, number_split}
 use Rattle.tree_machine.specs.declared.front.Front.{Front}
 use Rattle.tree_machine.specs.Alike.{FormContent, places_of, replies_of, notes_of}
 use Rattle.tree_machine.specs.FormCode.{IsInjective, TellsWholly, content_code, cut_code, state_code}
@@ -19,12 +19,28 @@ pub map_tells : {X Y : Type 0} (f : X → Y) → ((x y : X) → f x ≡ f y → 
     → xs ≡ ys
 map_tells f tells [] [] e = refl
 map_tells f tells (x ∷ xs) (y ∷ ys) e =
-    let first : f x ≡ f y = cc in
-    let others : map f xs ≡ map f ys = cc in
-    let same = tells x y first in
-    let rest = map_tells f tells xs ys others in
-    cc
+    cc (tells x y (cc), map_tells f tells xs ys (cc))
 map_tells f tells _ _ e = cc
+
+-- ---- cells
+
+reference_same : (r s : Option ℕ) → reference_number r ≡ reference_number s → r ≡ s
+reference_same None None e = refl
+reference_same (Some x) (Some y) e = cc
+reference_same _ _ e = absurd (omega arith)
+
+cell_split : (c d : Content) (xs ys : List ℕ) → cell_code c ++ xs ≡ cell_code d ++ ys → (c ≡ d) × (xs ≡ ys)
+cell_split c d xs ys e =
+    let facts = facts_split c.facts d.facts (length c.refs) (length d.refs) _ _ (simp append_assoc at e) in
+    let refs = each_readable number_code number_split (map reference_number c.refs) (map reference_number d.refs) xs ys
+    (simp length-map facts.1) facts.2 in
+    let same = map_tells reference_number reference_same c.refs d.refs refs.0 in
+    (λ i. record { facts = facts.0 i; refs = same i }, refs.1)
+
+-- equally many cells in front of other bytes
+pub flat_split : (cells others : List Content) (xs ys : List ℕ) → length cells ≡ length others
+    → flat cells ++ xs ≡ flat others ++ ys → (cells ≡ others) × (xs ≡ ys)
+flat_split = each_readable cell_code cell_split
 
 -- ---- parts
 
@@ -105,14 +121,13 @@ parts_code_tells f g s t l e =
 same_threads : {Place : Type 0} (a b : List (Thread Place)) → places_of a ≡ places_of b → replies_of a ≡ replies_of b
     → notes_of a ≡ notes_of b → a ≡ b
 same_threads [] [] places replies notes = refl
-same_threads [] (u ∷ b) places replies notes = cc
-same_threads (t ∷ a) [] places replies notes = cc
 same_threads (t ∷ a) (u ∷ b) places replies notes =
     let place : t.place ≡ u.place = cc in
     let reply : t.replies ≡ u.replies = cc in
     let note : t.notes ≡ u.notes = cc in
     let rest = same_threads a b (cc) (cc) (cc) in
     λ i. record { replies = reply i; place = place i; notes = note i } ∷ rest i
+same_threads _ _ places replies notes = cc
 
 -- equal bytes are of equal states, where those of memories and places held are of equal ones
 pub state_codes_tell : {Machine Memory Place Form : Type 0} (code twin_code : Memory → List (Option Place) → List ℕ)

@@ -1,13 +1,11 @@
--- Bytes determine the numbers and the cells that they begin with.
+-- Bytes determine the numbers and the facts that they begin with.
 use Rattle.std.proofs.Common.{◌≡◌, ℕ, zero, suc, ◌+◌, ◌*◌, ◌/◌, ◌%◌, ◌<◌, ◌⊎◌, Bool, true, false, List, []}
-use Rattle.std.proofs.Common.{◌∷◌, ◌++◌, map, length, replicate, refl, ap, inl, inr, arith, append_assoc}
-use Rattle.std.specs.Prelude.{Option, Some, None, nat_lt}
+use Rattle.std.proofs.Common.{◌∷◌, ◌++◌, length, replicate, refl, ap, inl, inr, arith, append_assoc}
+use Rattle.std.specs.Prelude.{nat_lt}
 use Rattle.std.specs.List.{flat_map}
 use Rattle.std.proofs.lemmas.Bool.{ltb-true}
-use Rattle.std.proofs.lemmas.List.{length-map}
 use Rattle.std.proofs.lemmas.List.Concat.{flat_map-cons}
-use Rattle.tree_machine.specs.Cells.{Content}
-use Rattle.tree_machine.specs.Flat.{number_code, long_code, facts_code, reference_number, cell_code, flat}
+use Rattle.tree_machine.specs.Flat.{number_code, long_code, facts_code}
 
 -- ---- one number
 
@@ -40,12 +38,11 @@ IsReadable {A} code = (x y : A) (xs ys : List ℕ) → code x ++ xs ≡ code y +
 pub each_readable : {A : Type 0} (code : A → List ℕ) → IsReadable code → (cs ds : List A) (xs ys : List ℕ)
     → length cs ≡ length ds → flat_map code cs ++ xs ≡ flat_map code ds ++ ys → (cs ≡ ds) × (xs ≡ ys)
 each_readable code readable [] [] xs ys l e = (refl, e)
-each_readable code readable [] (d ∷ ds) xs ys l e = absurd (omega arith)
-each_readable code readable (c ∷ cs) [] xs ys l e = absurd (omega arith)
 each_readable code readable (c ∷ cs) (d ∷ ds) xs ys l e =
     let first = readable c d _ _ (simp (flat_map-cons code, append_assoc) at e) in
     let rest = each_readable code readable cs ds xs ys (omega arith) first.1 in
     (cc (first.0, rest.0), rest.1)
+each_readable code readable _ _ xs ys l e = absurd (omega arith)
 
 -- ---- facts
 
@@ -92,7 +89,7 @@ short_split a b ms ns r s xs ys h1 h2 h3 h4 h5 h6 e =
     let facts = each_readable number_code number_split ms ns xs ys lengths behind in
     (cc facts.0, refs, facts.1)
 
-facts_split : (fs gs : List ℕ) (r s : ℕ) (xs ys : List ℕ) → facts_code fs r ++ xs ≡ facts_code gs s ++ ys
+pub facts_split : (fs gs : List ℕ) (r s : ℕ) (xs ys : List ℕ) → facts_code fs r ++ xs ≡ facts_code gs s ++ ys
     → (fs ≡ gs) × (r ≡ s) × (xs ≡ ys)
 unfolding IsShortOrLong
 facts_split fs gs r s xs ys e = go (short_or_long fs r) (short_or_long gs s)
@@ -111,34 +108,3 @@ facts_split fs gs r s xs ys e = go (short_or_long fs r) (short_or_long gs s)
         let head : 255 ≡ length q.1 + 5 * q.0 + 30 * s = cc heads in
         absurd (omega (arith, q.3, q.4, q.5, head))
     go (inr p) (inr q) = long_split fs gs r s xs ys (rw (p, q) at e)
-
--- ---- cells
-
-references_equal : (refs sefs : List (Option ℕ)) → map reference_number refs ≡ map reference_number sefs → refs ≡ sefs
-references_equal [] [] e = refl
-references_equal [] (s ∷ sefs) e = cc
-references_equal (r ∷ refs) [] e = cc
-references_equal (r ∷ refs) (s ∷ sefs) e =
-    let first = same r s (let head : reference_number r ≡ reference_number s = cc in head) in
-    let rest =
-    references_equal refs sefs (let tail : map reference_number refs ≡ map reference_number sefs = cc in tail) in
-    cc (first, rest)
-  where
-    same : (r s : Option ℕ) → reference_number r ≡ reference_number s → r ≡ s
-    same None None e = refl
-    same None (Some y) e = absurd (omega arith)
-    same (Some x) None e = absurd (omega arith)
-    same (Some x) (Some y) e = let inner : x ≡ y = omega arith in ap Some inner
-
-cell_split : (c d : Content) (xs ys : List ℕ) → cell_code c ++ xs ≡ cell_code d ++ ys → (c ≡ d) × (xs ≡ ys)
-cell_split c d xs ys e =
-    let facts = facts_split c.facts d.facts (length c.refs) (length d.refs) _ _ (simp append_assoc at e) in
-    let refs = each_readable number_code number_split (map reference_number c.refs) (map reference_number d.refs) xs ys
-    (simp length-map facts.1) facts.2 in
-    let same = references_equal c.refs d.refs refs.0 in
-    (λ i. record { facts = facts.0 i; refs = same i }, refs.1)
-
--- equally many cells in front of other bytes
-pub flat_split : (cells others : List Content) (xs ys : List ℕ) → length cells ≡ length others
-    → flat cells ++ xs ≡ flat others ++ ys → (cells ≡ others) × (xs ≡ ys)
-flat_split = each_readable cell_code cell_split

@@ -3,7 +3,7 @@ use Rattle.std.specs.Prelude.{◌≡◌, ℕ, ◌/◌, ◌%◌, Bool, true, fals
 use Rattle.std.specs.Prelude.{Some, None, nat_eq}
 use Rattle.std.specs.Cmp.{IsEquivalence}
 use Rattle.std.specs.Cmp.Lexicographic.{pointwise}
-use Rattle.std.proofs.Common.{refl, sym, ◌∙◌, ap, subst, arith, append_assoc}
+use Rattle.std.proofs.Common.{◌+◌, refl, sym, ◌∙◌, ap, subst, arith, append_assoc, get_or}
 use Rattle.std.proofs.lemmas.Cmp.{lists_equiv}
 use Rattle.sched_program.specs.Exact.{IsExact}
 use Rattle.sched_program.specs.Laws.Exact.{nat_exact, list_exact}
@@ -13,10 +13,10 @@ use Rattle.tree_machine.specs.Laws.StateExact.{same_answer}
 use Rattle.tree_machine.specs.FormCode.{list_code, replies_code, note_code, astray_code, content_code}
 use Rattle.tree_machine.specs.FormCode.{IsInjective}
 use Rattle.tree_machine.specs.Laws.Flat.{number_split, IsReadable, each_readable}
-use Rattle.tree_machine.specs.Laws.Packed.{replies_least}
+use Rattle.tree_machine.specs.Laws.Packed.{digits_of_number}
 use Rattle.tree_machine.specs.Laws.ShortNotes.{counts_of_number, number_below}
 use Rattle.tree_machine.specs.declared.state.State.{State}
-use Rattle.tree_machine.specs.Packed.{counts_in, is_short, note_number, replies_number}
+use Rattle.tree_machine.specs.Packed.{counts_in, digits_of, is_short, note_number, replies_number}
 
 -- what the bytes of a state are of, behind its steps
 abbrev pub state_content : {Machine Memory Place Form : Type 0} → (Memory → List (Option Place) → List ℕ)
@@ -32,13 +32,9 @@ list_readable : {A : Type 0} (code : A → List ℕ) → IsReadable code → IsR
 list_readable code readable cs ds xs ys e = each_readable code readable cs ds xs ys (cc) (cc)
 
 replies_injective : (a b : List Bool) → replies_number a ≡ replies_number b → a ≡ b
-replies_injective [] [] e = refl
-replies_injective [] (r ∷ b) e = let least = replies_least b in absurd (omega (arith, e, least))
-replies_injective (r ∷ a) [] e = let least = replies_least a in absurd (omega (arith, e, least))
-replies_injective (true ∷ a) (true ∷ b) e = ap (λ l. true ∷ l) (replies_injective a b (omega (arith, e)))
-replies_injective (true ∷ a) (false ∷ b) e = absurd (omega (arith, e))
-replies_injective (false ∷ a) (true ∷ b) e = absurd (omega (arith, e))
-replies_injective (false ∷ a) (false ∷ b) e = ap (λ l. false ∷ l) (replies_injective a b (omega (arith, e)))
+replies_injective a b e =
+    let most = length a + length b in
+    sym (digits_of_number most a (omega arith)) ∙ ap (digits_of most) e ∙ digits_of_number most b (omega arith)
 
 replies_readable : IsReadable replies_code
 unfolding replies_code
@@ -49,9 +45,8 @@ replies_readable a b xs ys e =
 -- equal lists that are cut at one place have equal pieces
 pub halves : {A : Type 0} (xs us ys vs : List A) → length xs ≡ length us → xs ++ ys ≡ us ++ vs → (xs ≡ us) × (ys ≡ vs)
 halves [] [] ys vs l e = (refl, e)
-halves [] (u ∷ us) ys vs l e = absurd (omega arith)
-halves (x ∷ xs) [] ys vs l e = absurd (omega arith)
 halves (x ∷ xs) (u ∷ us) ys vs l e = let rest = halves xs us ys vs (omega arith) (cc) in (cc (e, rest.0), rest.1)
+halves _ _ ys vs l e = absurd (omega arith)
 
 -- a short note and one that is not begin with different bytes
 note_readable : IsReadable note_code
@@ -82,9 +77,8 @@ note_readable cs ds xs ys e = go (is_short cs) (is_short ds) refl refl e
 
 astray_readable : IsReadable astray_code
 astray_readable None None xs ys e = (refl, cc)
-astray_readable None (Some t) xs ys e = let same : ◌≡◌ {A = ℕ} 0 1 = cc in absurd (omega arith)
-astray_readable (Some t) None xs ys e = let same : ◌≡◌ {A = ℕ} 1 0 = cc in absurd (omega arith)
 astray_readable (Some t) (Some u) xs ys e = (cc, cc)
+astray_readable _ _ xs ys e = absurd (omega (arith, ap (λ l. get_or l 0 0) e))
 
 -- comparing bytes returns what comparing their values returns
 pub codes_same : {A : Type 0} (code : A → List ℕ) → IsInjective code → (E : A → A → Bool) → IsExact E

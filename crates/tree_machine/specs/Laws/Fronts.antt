@@ -3,11 +3,12 @@
 use Rattle.std.proofs.Common.{◌≡◌, ℕ, suc, ◌+◌, ◌<◌, ◌≤◌, List, [], ◌∷◌, ◌++◌, map, length, refl, take, sym}
 use Rattle.std.proofs.Common.{◌∙◌, ap, add-zero, append-nil, arith, zero, zero-add}
 use Rattle.std.specs.Prelude.{slice_get, Option, Some, None, nat_eq}
-use Rattle.std.specs.List.{All, AllZip, AllByRecursion, IsDistinct}
+use Rattle.std.specs.List.{AllZip, IsDistinct}
 use Rattle.std.specs.Option.{option_and_then}
 use Rattle.std.proofs.Math.Seq.{take-length, drop-length}
 use Rattle.std.proofs.lemmas.List.{length-map, length-take, length-take-le, take_all, take_at, take_min, take-map}
-use Rattle.std.proofs.lemmas.List.Elements.{recursion_from_All}
+use Rattle.std.proofs.lemmas.List.Elements.{All-from_recursion, All-weaker, recursion_from_All}
+use Rattle.std.proofs.lemmas.List.Folds.{map_fixed}
 use Rattle.std.proofs.lemmas.Map.Steps.{length-le_from_distinct_below}
 use Rattle.tree_machine.specs.Cells.{place_in}
 use Rattle.tree_machine.specs.Pairing.{IsAmong}
@@ -38,8 +39,6 @@ places_in_row : (ys : List ℕ) → IsDistinct nat_eq ys → (a : ℕ) (xs place
     → ((i x : ℕ) → slice_get xs i ≡ Some x → slice_get ys (a + i) ≡ Some x) → AllZip (IsAmong (places ys)) xs places_of
     → places_of ≡ numbers_from a (length xs)
 places_in_row ys d a [] [] h z = refl
-places_in_row ys d a [] (k ∷ ks) h z = absurd z
-places_in_row ys d a (x ∷ xs) [] h z = absurd z
 places_in_row ys d a (x ∷ xs) (k ∷ ks) h z =
     let here = place_at ys d k x (places_among ys x k z.0) in
     let there = place_at ys d (a + 0) x (h 0 x refl) in
@@ -47,6 +46,7 @@ places_in_row ys d a (x ∷ xs) (k ∷ ks) h z =
     let first : k ≡ a = omega arith in
     let rest = places_in_row ys d (suc a) xs ks (λ i v at. rw next_place (h (suc i) v at)) z.1 in
     cc
+places_in_row ys d a _ _ h z = absurd z
 
 -- where the numbers below f come first, names below f have themselves as places
 own_names : (f : ℕ) (xs : List ℕ) → IsDistinct nat_eq xs → Extends (numbers_from 0 f) xs → (refs : List (Option ℕ))
@@ -54,12 +54,8 @@ own_names : (f : ℕ) (xs : List ℕ) → IsDistinct nat_eq xs → Extends (numb
 own_names f xs d e [] h = refl
 own_names f xs d e (None ∷ refs) h = ap (λ l. None ∷ l) (own_names f xs d e refs h)
 own_names f xs d e (Some x ∷ refs) h =
-    let P : ℕ → Type 0 = λ x. slice_get (numbers_from 0 f) x ≡ Some x in
-    let own : All P (numbers_from 0 f) = numbers_all P 0 f (λ x l k. own_number x (omega arith)) in
-    let at : P x = all_has P (numbers_from 0 f) (recursion_from_All P _ own) x h.0 in
-    let first = place_at xs d x x (get_extends e x x at) in
-    let rest = own_names f xs d e refs h.1 in
-    cc
+    let below = all_has (λ x. x < f) _ (recursion_from_All _ _ (numbers_all (λ x. x < f) 0 f (λ x l k. omega arith))) x h.0 in
+    cc (place_at xs d x x (get_extends e x x (own_number x below)), own_names f xs d e refs h.1)
 
 taken_first : (f : ℕ) (xs : List ℕ) → Extends (numbers_from 0 f) xs → take f xs ≡ numbers_from 0 f
 taken_first f xs e = ap (take f) e.is ∙ take_at (numbers_from 0 f) e.rest f (length-numbers_from 0 f)
@@ -79,6 +75,12 @@ first_parts g f xs parts e l h =
         let first : g a ≡ p = rw add-zero at (h 0 (omega arith)) in
         let rest = go (suc a) n ps (omega arith) (λ i k. rw next_place (h (suc i) (omega arith))) in
         cc
+
+-- parts that have the same in front are the same, where no more comes behind
+whole : (g : ℕ → Part) (n : ℕ) (xs : List ℕ) (parts : List Part) → length xs ≤ n → length parts ≤ n
+    → take n (map g xs) ≡ take n parts → map g xs ≡ parts
+whole g n xs parts few fewer same =
+    sym (take_all n (map g xs) (simp length-map few)) ∙ same ∙ take_all n parts fewer
 
 -- nodes and records that are met are no more than there are
 met_within : (fixed : ℕ) (s : Parts) {nodes records : List ℕ} → AreMet fixed s nodes records
@@ -156,31 +158,20 @@ module _ (fixed : ℕ) (front : Front) (t : Parts) (h : ArePartsInRange fixed t)
 
   -- where all come in front, the parts are canonical
   module _ (all_nodes : front.nodes ≡ length t.nodes) (all_records : front.records ≡ length t.records) where
-    all_first : (f n : ℕ) (xs : List ℕ) → Extends (numbers_from 0 f) xs → f ≡ n → length xs ≤ n → xs ≡ numbers_from 0 f
-    all_first f n xs e same short = sym (take_all f xs (omega arith)) ∙ taken_first f xs e
-
-    whole : (g : ℕ → Part) (f : ℕ) (xs : List ℕ) (parts : List Part) → f ≡ length parts → length xs ≤ length parts
-        → take f (map g xs) ≡ take f parts → map g xs ≡ parts
-    whole g f xs parts many short same =
-        sym (take_all f (map g xs) (simp length-map (omega arith))) ∙ same ∙ take_all f parts (omega arith)
-
-    held_own : (ps : List Part)
-        → AllByRecursion (IsPartMet (numbers_from 0 front.nodes) (numbers_from 0 front.records)) ps
-        → map (renamed_part (met_nodes fixed t) (met_records fixed t)) ps ≡ ps
-    held_own [] met = refl
-    held_own (p ∷ ps) met = let first = own_part p met.0 in let rest = held_own ps met.1 in cc
-
     canonical_own : canonical_parts fixed t ≡ t
     canonical_own =
         let short = met_within fixed t (walk_met fixed t h) in
-        let nodes = whole _ front.nodes (met_nodes fixed t) t.nodes all_nodes short.0 front_nodes_own in
-        let records = whole _ front.records (met_records fixed t) t.records all_records short.1 front_records_own in
+        let IsMet = IsPartMet (numbers_from 0 front.nodes) (numbers_from 0 front.records) in
+        let few_nodes : length (met_nodes fixed t) ≤ front.nodes = omega arith in
+        let few_records : length (met_records fixed t) ≤ front.records = omega arith in
+        let nodes = whole _ front.nodes (met_nodes fixed t) t.nodes few_nodes (omega arith) front_nodes_own in
+        let records = whole _ front.records (met_records fixed t) t.records few_records (omega arith) front_records_own in
+        let all_nodes_met = sym (take_all front.nodes _ few_nodes) ∙ taken_first front.nodes _ nodes_first in
+        let all_records_met = sym (take_all front.records _ few_records) ∙ taken_first front.records _ records_first in
         let held =
-        held_own t.held
-        (rw (
-          ← all_first front.nodes _ _ nodes_first all_nodes short.0,
-          ← all_first front.records _ _ records_first all_records short.1,
-        ) (walk_held fixed t h)) in
+        map_fixed _ t.held
+        (All-weaker IsMet (λ p. renamed_part (met_nodes fixed t) (met_records fixed t) p ≡ p) own_part t.held
+        (All-from_recursion IsMet t.held (rw (← all_nodes_met, ← all_records_met) (walk_held fixed t h)))) in
         λ i. record { nodes = nodes i; records = records i; held = held i }
 
 -- ---- parts that were read from a code, cut at a front

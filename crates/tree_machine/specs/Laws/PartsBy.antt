@@ -1,11 +1,11 @@
 -- Parts that are renamed by nodes and records: paired with those they come from, in range, and the same where these
 -- are paired.
-use Rattle.std.proofs.Common.{◌≡◌, ℕ, ◌<◌, ◌≤◌, List, [], ◌∷◌, map, length, refl, ◌∙◌, ap, get_or, zero-add}
+use Rattle.std.proofs.Common.{◌≡◌, ℕ, ◌<◌, ◌≤◌, List, [], ◌∷◌, map, length, refl, ◌∙◌, ap, arith, get_or, zero-add}
 use Rattle.std.specs.Prelude.{slice_get, Option, Some, None, nat_eq, IfSome}
 use Rattle.std.specs.List.{AllZip, All, AllByRecursion, IsDistinct, zip}
 use Rattle.std.specs.Option.{option_and_then}
 use Rattle.std.proofs.lemmas.List.{length-map}
-use Rattle.std.proofs.lemmas.List.Elements.{All-map}
+use Rattle.std.proofs.lemmas.List.Elements.{All-map, recursion_from_All}
 use Rattle.std.proofs.lemmas.Option.{slice_get-map, slice_get_within}
 use Rattle.tree_machine.specs.Cells.{place_in}
 use Rattle.tree_machine.specs.Pairing.{IsAmong}
@@ -14,6 +14,7 @@ use Rattle.tree_machine.specs.Parts.{Part, Parts, part_at, ArePartsPaired, IsPar
 use Rattle.tree_machine.specs.Canonical.{renamed_part, parts_by}
 use Rattle.tree_machine.specs.Laws.Cells.{map_paired, unmap, refs_from_renamed}
 use Rattle.tree_machine.specs.Laws.CellOrder.{Has, HasAll, Extends, all_has, get_extends}
+use Rattle.tree_machine.specs.Laws.CellLists.{numbers_all}
 use Rattle.tree_machine.specs.Laws.CellPlaces.{refs_renamed, get_place, has_at, among_at, at_among, rel_among, zip_one}
 use Rattle.tree_machine.specs.Laws.MetLists.{number_at, places, among_places, places_among, places_one, refs_placed}
 
@@ -53,17 +54,17 @@ placed_below : (xs : List ℕ) (refs : List (Option ℕ))
 placed_below xs refs =
     All-map (λ r. IfSome r (λ y. y < length xs)) _ refs (λ k d l. place_below xs (get_or refs k d))
 
-place_range : (n : ℕ) (f : ℕ → Part) (xs : List ℕ) → AllByRecursion (λ x. x < n) xs → (x y : ℕ)
-    → IsAmong (places xs) x y → (x < n) × (y < length (map f xs))
-place_range n f xs below x y p =
-    let at = places_among xs x y p in
-    (all_has (λ x. x < n) xs below x (has_at xs y x at), rw length-map (slice_get_within xs y x at))
-
 pair_range : (n m : ℕ) (xs ys : List ℕ) → AllByRecursion (λ x. x < n) xs → AllByRecursion (λ y. y < m) ys → (x y : ℕ)
     → IsAmong (zip xs ys) x y → (x < n) × (y < m)
 pair_range n m xs ys below above x y p =
     let at = at_among xs ys x y p in
     (all_has (λ x. x < n) xs below x (has_at xs at.0 x at.1), all_has (λ y. y < m) ys above y (has_at ys at.0 y at.2))
+
+place_range : (n : ℕ) (f : ℕ → Part) (xs : List ℕ) → AllByRecursion (λ x. x < n) xs → (x y : ℕ)
+    → IsAmong (places xs) x y → (x < n) × (y < length (map f xs))
+place_range n f xs below =
+    pair_range n _ xs _ below
+    (recursion_from_All _ _ (numbers_all (λ y. y < length (map f xs)) 0 (length xs) (λ y l k. rw length-map (omega arith))))
 
 module _ (nodes records : List ℕ) where
   part_paired : (p : Part) → IsPartMet nodes records p
@@ -160,12 +161,11 @@ module _ (fixed : ℕ) (s t : Parts) (nodes records others targets : List ℕ) (
       → AllByRecursion (IsPartMet others targets) qs
       → map (renamed_part nodes records) ps ≡ map (renamed_part others targets) qs → AllZip (ArePartsPaired P R) ps qs
   held_from_same [] [] h g e = tt
-  held_from_same [] (q ∷ qs) h g e = cc
-  held_from_same (p ∷ ps) [] h g e = cc
   held_from_same (p ∷ ps) (q ∷ qs) h g e = (
     part_from_same p q h.0 g.0 (cc),
     held_from_same ps qs h.1 g.1 (cc),
   )
+  held_from_same _ _ h g e = cc
 
   pub paired_from_same : AllByRecursion (IsPartMet nodes records) s.held
       → AllByRecursion (IsPartMet others targets) t.held
