@@ -16,7 +16,7 @@ use Rattle.tree_machine.specs.Parts.{Part, Parts, no_part, IsPartsPairing, IsPar
 use Rattle.tree_machine.specs.Parts.{part_cell, parts_graph, parts_held, CanPartsBePaired}
 use Rattle.tree_machine.specs.Canonical.{nodes_met, records_met, front_order, front_nodes, front_records, as_cells}
 use Rattle.tree_machine.specs.Canonical.{order_behind, met_nodes, met_records, canonical_parts}
-use Rattle.tree_machine.specs.Laws.CellLists.{AreDistinctIn, in_join, numbers_all, numbers_in, raised_in}
+use Rattle.tree_machine.specs.Laws.CellLists.{AreDistinctIn, distinct_in_join, numbers_all, distinct_in_row, distinct_in_raised}
 use Rattle.tree_machine.specs.Laws.CellOrder.{Has, HasAll, RefsBelow, Extends, extends_more, has_extends}
 use Rattle.tree_machine.specs.Laws.CellOrder.{met_in_order, met_in_extends, order_closed}
 use Rattle.tree_machine.specs.Laws.CellPlaces.{place_from_has, get_place, has_at}
@@ -79,8 +79,8 @@ module _ (s : Parts) (roots nodes records behind : List ℕ)
   }
 
 -- what is met is in range
-met_in_range : {n : ℕ} (xs : List ℕ) → IsDistinct nat_eq xs → AllByRecursion (λ x. x < n) xs → AreDistinctIn 0 n xs
-met_in_range {n} xs distinct below = record {
+met_distinct_in : {n : ℕ} (xs : List ℕ) → IsDistinct nat_eq xs → AllByRecursion (λ x. x < n) xs → AreDistinctIn 0 n xs
+met_distinct_in {n} xs distinct below = record {
   distinct = distinct;
   within = λ k d l. (omega arith, All-from_recursion (λ x. x < n) xs below k d l);
 }
@@ -127,13 +127,13 @@ module _ (fixed : ℕ) (s : Parts) (h : ArePartsInRange fixed s) where
   fixed_all m l = numbers_all (λ x. x < m) 0 fixed (λ x g k. omega (arith, h.fixed_in_range))
 
   pub fixed_cells : IsRooted (parts_graph s ++ parts_held s) (numbers_from 0 fixed)
-  fixed_cells = cells_rooted fixed s h _ (fixed_all _ (omega (arith, length-cells s))) (numbers_in 0 fixed).distinct
+  fixed_cells = cells_rooted fixed s h _ (fixed_all _ (omega (arith, length-cells s))) (distinct_in_row 0 fixed).distinct
 
   -- what is held plays no part in it
   pub front_same : order_of (parts_graph s ++ parts_held s) (numbers_from 0 fixed) ≡ front_order fixed s
   front_same =
       order_front (parts_graph s) (parts_held s) (numbers_from 0 fixed)
-      (graph_rooted fixed s h _ (fixed_all _ (omega (arith, length-parts_graph s))) (numbers_in 0 fixed).distinct)
+      (graph_rooted fixed s h _ (fixed_all _ (omega (arith, length-parts_graph s))) (distinct_in_row 0 fixed).distinct)
 
   pub front_met : AreMet fixed s (front_nodes fixed s) (front_records fixed s)
   front_met =
@@ -153,12 +153,13 @@ module _ (fixed : ℕ) (s : Parts) (h : ArePartsInRange fixed s) where
         let held = length (parts_held s) in
         let long : m ≡ n + length s.records = length-parts_graph s in
         let more : length (all_cells s) ≡ m + held = length-append (parts_graph s) (parts_held s) in
-        let below : AreDistinctIn 0 n nodes = met_in_range nodes met.nodes_distinct met.nodes_below in
-        let raised = raised_in n _ records (met_in_range records met.records_distinct met.records_below) in
-        let graph = in_join 0 n n (n + length s.records) nodes _ (omega arith) (omega arith) (omega arith) below raised in
+        let below : AreDistinctIn 0 n nodes = met_distinct_in nodes met.nodes_distinct met.nodes_below in
+        let raised = distinct_in_raised n _ records (met_distinct_in records met.records_distinct met.records_below) in
+        let graph =
+        distinct_in_join 0 n n _ nodes _ (omega arith) (omega arith) (omega arith) below raised in
         let roots =
-        in_join 0 (n + length s.records) m (m + held) (as_cells n nodes records) _ (omega arith) (omega arith)
-        (omega arith) graph (numbers_in m held) in
+        distinct_in_join 0 _ m _ (as_cells n nodes records) _ (omega arith) (omega arith) (omega arith) graph
+        (distinct_in_row m held) in
         cells_rooted fixed s h _ (λ k d l. omega (arith, roots.within k d l)) roots.distinct
 
     -- they stay in front

@@ -50,11 +50,11 @@ pub record AreDistinctIn (low high : ℕ) (xs : List ℕ) : Type 0 where
   pub distinct : IsDistinct nat_eq xs
   pub within : All (λ x. (low ≤ x) × (x < high)) xs
 
--- numbers in front of ones from there on
-pub in_join : (a b c d : ℕ) (xs ys : List ℕ) → a ≤ c → b ≤ c → b ≤ d → AreDistinctIn a b xs → AreDistinctIn c d ys
+-- two such lists end to end
+pub distinct_in_join : (a b c d : ℕ) (xs ys : List ℕ) → a ≤ c → b ≤ c → b ≤ d → AreDistinctIn a b xs → AreDistinctIn c d ys
     → AreDistinctIn a d (xs ++ ys)
 unfolding IsDistinct
-in_join a b c d xs ys low apart high h g = record {
+distinct_in_join a b c d xs ys low apart high h g = record {
   distinct = go xs h.distinct (λ k e l. (h.within k e l).1);
   within =
       All-append (λ x. (a ≤ x) × (x < d)) xs ys
@@ -71,20 +71,21 @@ in_join a b c d xs ys low apart high h g = record {
           go xs distinct.1 (All-tail (λ x. x < b) x xs below),
         )
 
-pub numbers_in : (a n : ℕ) → AreDistinctIn a (a + n) (numbers_from a n)
+pub distinct_in_row : (a n : ℕ) → AreDistinctIn a (a + n) (numbers_from a n)
 unfolding IsDistinct
-numbers_in a n = record { distinct = go a n; within = numbers_all (λ x. (a ≤ x) × (x < a + n)) a n (λ x l k. (l, k)) }
+distinct_in_row a n = record { distinct = go a n; within = numbers_all (λ x. (a ≤ x) × (x < a + n)) a n (λ x l k. (l, k)) }
   where
     go : (a n : ℕ) → IsDistinct nat_eq (numbers_from a n)
     go a zero = tt
     go a (suc n) = (
-      recursion_from_All _ _ (numbers_all (λ x. nat_eq a x ≡ false) (suc a) n (λ x l k. is_other a x (λ e. omega arith))),
+      recursion_from_All _ _
+          (numbers_all (λ x. nat_eq a x ≡ false) (suc a) n (λ x l k. is_other a x (λ e. omega arith))),
       go (suc a) n,
     )
 
 pub numbers_distinct : (a f n t : ℕ) → a + f ≤ n → IsDistinct nat_eq (numbers_from a f ++ numbers_from n t)
 numbers_distinct a f n t l =
-    (in_join a (a + f) n (n + t) _ _ (omega arith) l (omega arith) (numbers_in a f) (numbers_in n t)).distinct
+    (distinct_in_join a (a + f) n (n + t) _ _ (omega arith) l (omega arith) (distinct_in_row a f) (distinct_in_row n t)).distinct
 
 -- distinct numbers stay distinct under a map that is one to one among them
 pub mapped_distinct : (P : ℕ → Type 0) (f : ℕ → ℕ) → ((x y : ℕ) → P x → P y → f x ≡ f y → x ≡ y) → (xs : List ℕ)
@@ -99,9 +100,9 @@ mapped_distinct P f one (x ∷ xs) a d = (
   mapped_distinct P f one xs a.1 d.1,
 )
 
--- numbers that are all raised
-pub raised_in : (n r : ℕ) (xs : List ℕ) → AreDistinctIn 0 r xs → AreDistinctIn n (n + r) (map (λ x. n + x) xs)
-raised_in n r xs h = record {
+-- and one whose numbers are all raised
+pub distinct_in_raised : (n r : ℕ) (xs : List ℕ) → AreDistinctIn 0 r xs → AreDistinctIn n (n + r) (map (λ x. n + x) xs)
+distinct_in_raised n r xs h = record {
   distinct =
       mapped_distinct (λ x. (0 ≤ x) × (x < r)) (λ x. n + x) (λ x y _ _ e. omega (arith, e)) xs
       (recursion_from_All _ xs h.within) h.distinct;

@@ -5,7 +5,8 @@ use Rattle.std.specs.Prelude.{Option, Some, None}
 use Rattle.std.proofs.lemmas.List.{length-map, take-append-drop}
 use Rattle.tree_machine.specs.Cells.{Content}
 use Rattle.tree_machine.specs.Parts.{Part, Parts}
-use Rattle.tree_machine.specs.Flat.{cell_code, flat, number_code, reference_number, part_content, part_codes, graph_code, left_code, parts_code}
+use Rattle.tree_machine.specs.Flat.{cell_code, flat, graph_code, left_code, number_code, part_codes, part_content}
+use Rattle.tree_machine.specs.Flat.{parts_code, reference_number}
 use Rattle.tree_machine.specs.Laws.Flat.{each_readable, facts_split, number_read, number_split}
 use Rattle.tree_machine.specs.declared.front.Front.{Front}
 use Rattle.tree_machine.specs.Alike.{FormContent, places_of, replies_of, notes_of}

@@ -1,9 +1,9 @@
 -- Bytes determine the numbers and the facts that they begin with.
 use Rattle.std.proofs.Common.{◌≡◌, ℕ, zero, suc, ◌+◌, ◌*◌, ◌/◌, ◌%◌, ◌<◌, ◌⊎◌, Bool, true, false, List, []}
 use Rattle.std.proofs.Common.{◌∷◌, ◌++◌, length, replicate, refl, ap, inl, inr, arith, append_assoc}
-use Rattle.std.specs.Prelude.{nat_lt}
+use Rattle.std.specs.Prelude.{nat_lt, ◌&&◌}
 use Rattle.std.specs.List.{flat_map}
-use Rattle.std.proofs.lemmas.Bool.{ltb-true}
+use Rattle.std.proofs.lemmas.Bool.{and_parts, cases_Bool, ltb-true}
 use Rattle.std.proofs.lemmas.List.Concat.{flat_map-cons}
 use Rattle.tree_machine.specs.Flat.{number_code, long_code, facts_code}
 
@@ -57,15 +57,13 @@ short_or_long : (facts : List ℕ) (refs : ℕ) → IsShortOrLong facts refs
 unfolding IsShortOrLong
 short_or_long [] refs = inr refl
 short_or_long (first ∷ more) refs =
-    go (nat_lt first 6) (nat_lt (length more) 5) (nat_lt refs 8) refl refl refl
-  where
-    go : (a b c : Bool) → nat_lt first 6 ≡ a → nat_lt (length more) 5 ≡ b → nat_lt refs 8 ≡ c
-        → IsShortOrLong (first ∷ more) refs
-    go true true true e f g = inl
-        (first, more, refl, ltb-true first 6 e, ltb-true (length more) 5 f, ltb-true refs 8 g, rw (e, f, g) refl)
-    go true true false e f g = inr (rw (e, f, g) refl)
-    go true false c e f g = inr (rw (e, f) refl)
-    go false b c e f g = inr (rw e refl)
+    elim (cases_Bool (nat_lt first 6 && (nat_lt (length more) 5 && nat_lt refs 8))) [
+      | inl e ↦
+          let p = and_parts (nat_lt first 6) (nat_lt (length more) 5 && nat_lt refs 8) e in
+          let q = and_parts (nat_lt (length more) 5) (nat_lt refs 8) p.1 in
+          inl (first, more, refl, ltb-true first 6 p.0, ltb-true (length more) 5 q.0, ltb-true refs 8 q.1, rw e refl)
+      | inr e ↦ inr (rw e refl)
+    ]
 
 long_split : (fs gs : List ℕ) (r s : ℕ) (xs ys : List ℕ) → long_code fs r ++ xs ≡ long_code gs s ++ ys
     → (fs ≡ gs) × (r ≡ s) × (xs ≡ ys)

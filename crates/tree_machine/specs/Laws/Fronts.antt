@@ -54,7 +54,8 @@ own_names : (f : ℕ) (xs : List ℕ) → IsDistinct nat_eq xs → Extends (numb
 own_names f xs d e [] h = refl
 own_names f xs d e (None ∷ refs) h = ap (λ l. None ∷ l) (own_names f xs d e refs h)
 own_names f xs d e (Some x ∷ refs) h =
-    let below = all_has (λ x. x < f) _ (recursion_from_All _ _ (numbers_all (λ x. x < f) 0 f (λ x l k. omega arith))) x h.0 in
+    let below =
+    all_has (λ x. x < f) _ (recursion_from_All _ _ (numbers_all (λ x. x < f) 0 f (λ x l k. omega arith))) x h.0 in
     cc (place_at xs d x x (get_extends e x x (own_number x below)), own_names f xs d e refs h.1)
 
 taken_first : (f : ℕ) (xs : List ℕ) → Extends (numbers_from 0 f) xs → take f xs ≡ numbers_from 0 f
@@ -165,7 +166,8 @@ module _ (fixed : ℕ) (front : Front) (t : Parts) (h : ArePartsInRange fixed t)
         let few_nodes : length (met_nodes fixed t) ≤ front.nodes = omega arith in
         let few_records : length (met_records fixed t) ≤ front.records = omega arith in
         let nodes = whole _ front.nodes (met_nodes fixed t) t.nodes few_nodes (omega arith) front_nodes_own in
-        let records = whole _ front.records (met_records fixed t) t.records few_records (omega arith) front_records_own in
+        let records =
+        whole _ front.records (met_records fixed t) t.records few_records (omega arith) front_records_own in
         let all_nodes_met = sym (take_all front.nodes _ few_nodes) ∙ taken_first front.nodes _ nodes_first in
         let all_records_met = sym (take_all front.records _ few_records) ∙ taken_first front.records _ records_first in
         let held =

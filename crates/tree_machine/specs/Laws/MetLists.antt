@@ -1,6 +1,6 @@
 -- Lists of the nodes and of the records that are met: distinct, in range, and paired where the orders are.
-use Rattle.std.proofs.Common.{◌≡◌, ◌≢◌, ℕ, zero, suc, ◌+◌, ◌-◌, ◌<◌, ◌≤◌, ◌⊎◌, inl, inr, Bool, true, false, ◌||◌, ◌&&◌}
-use Rattle.std.proofs.Common.{List, [], ◌∷◌, ◌++◌, map, length, refl, sym, ◌∙◌, ap, ap₂, arith, append-nil}
+use Rattle.std.proofs.Common.{◌≡◌, ◌≢◌, ℕ, zero, suc, ◌+◌, ◌-◌, ◌<◌, ◌≤◌, ◌⊎◌, inl, inr, Bool, true, false}
+use Rattle.std.proofs.Common.{◌||◌, ◌&&◌, List, [], ◌∷◌, ◌++◌, map, length, refl, sym, ◌∙◌, ap, ap₂, arith, append-nil}
 use Rattle.std.specs.Prelude.{slice_get, Option, Some, None, nat_eq, nat_lt, nat_le}
 use Rattle.std.specs.List.{AllZip, AllByRecursion, filter, list_any, zip, IsDistinct}
 use Rattle.std.specs.Option.{option_and_then}
@@ -17,7 +17,7 @@ use Rattle.tree_machine.specs.Cells.{IsPairedOrNone, place_in}
 use Rattle.tree_machine.specs.Pairing.{IsOneToOne, IsAmong}
 use Rattle.tree_machine.specs.Graphs.{numbers_from}
 use Rattle.tree_machine.specs.Canonical.{nodes_met, records_met, as_cells}
-use Rattle.tree_machine.specs.Laws.CellLists.{mapped_distinct, numbers_in}
+use Rattle.tree_machine.specs.Laws.CellLists.{mapped_distinct, distinct_in_row}
 use Rattle.tree_machine.specs.Laws.CellOrder.{Has, HasAll, all_from_has}
 use Rattle.tree_machine.specs.Laws.CellSteps.{same_tests}
 use Rattle.tree_machine.specs.Laws.CellPlaces.{among_at, at_among, place_from_has, get_place, zip_one}
@@ -48,7 +48,7 @@ places_among xs x k h =
     rw (← same) p.1
 
 pub places_one : (xs : List ℕ) → IsDistinct nat_eq xs → IsOneToOne (IsAmong (places xs))
-places_one xs d = zip_one xs _ d (numbers_in 0 (length xs)).distinct
+places_one xs d = zip_one xs _ d (distinct_in_row 0 (length xs)).distinct
 
 -- names that are all in a list are paired with their places
 pub refs_placed : (xs : List ℕ) (refs : List (Option ℕ)) → HasAll xs refs

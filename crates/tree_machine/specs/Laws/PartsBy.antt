@@ -64,7 +64,8 @@ place_range : (n : ℕ) (f : ℕ → Part) (xs : List ℕ) → AllByRecursion (�
     → IsAmong (places xs) x y → (x < n) × (y < length (map f xs))
 place_range n f xs below =
     pair_range n _ xs _ below
-    (recursion_from_All _ _ (numbers_all (λ y. y < length (map f xs)) 0 (length xs) (λ y l k. rw length-map (omega arith))))
+    (recursion_from_All _ _
+    (numbers_all (λ y. y < length (map f xs)) 0 (length xs) (λ y l k. rw length-map (omega arith))))
 
 module _ (nodes records : List ℕ) where
   part_paired : (p : Part) → IsPartMet nodes records p
