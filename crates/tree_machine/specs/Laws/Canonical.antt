@@ -1,5 +1,5 @@
 -- Canonical parts: they can be paired with the parts that they come from, and are equal exactly where parts can be.
-use Rattle.std.proofs.Common.{◌≡◌, ℕ, ◌+◌, ◌<◌, ◌≤◌, List, [], ◌∷◌, ◌++◌, map, length, refl, ◌∙◌, ap, subst}
+use Rattle.std.proofs.Common.{◌≡◌, ℕ, ◌+◌, ◌<◌, ◌≤◌, List, [], ◌∷◌, ◌++◌, map, length, ◌∙◌, ap, subst}
 use Rattle.std.proofs.Common.{append_assoc, append-nil, arith, length-append}
 use Rattle.std.specs.Prelude.{Option, Some, None, nat_eq}
 use Rattle.std.specs.List.{All, AllByRecursion, IsDistinct}
@@ -16,7 +16,8 @@ use Rattle.tree_machine.specs.Parts.{Part, Parts, no_part, IsPartsPairing, IsPar
 use Rattle.tree_machine.specs.Parts.{part_cell, parts_graph, parts_held, CanPartsBePaired}
 use Rattle.tree_machine.specs.Canonical.{nodes_met, records_met, front_order, front_nodes, front_records, as_cells}
 use Rattle.tree_machine.specs.Canonical.{order_behind, met_nodes, met_records, canonical_parts}
-use Rattle.tree_machine.specs.Laws.CellLists.{AreDistinctIn, distinct_in_join, numbers_all, distinct_in_row, distinct_in_raised}
+use Rattle.tree_machine.specs.Laws.CellLists.{AreDistinctIn, distinct_in_join, distinct_in_raised, distinct_in_row}
+use Rattle.tree_machine.specs.Laws.CellLists.{numbers_all}
 use Rattle.tree_machine.specs.Laws.CellOrder.{Has, HasAll, RefsBelow, Extends, extends_more, has_extends}
 use Rattle.tree_machine.specs.Laws.CellOrder.{met_in_order, met_in_extends, order_closed}
 use Rattle.tree_machine.specs.Laws.CellPlaces.{place_from_has, get_place, has_at}
@@ -55,27 +56,20 @@ abbrev pub roots_behind : Parts → List ℕ → List ℕ → List ℕ
 roots_behind s nodes records =
     as_cells (length s.nodes) nodes records ++ numbers_from (length (parts_graph s)) (length (parts_held s))
 
--- nodes and records that are the first roots are the first that are met
-module _ (s : Parts) (roots nodes records behind : List ℕ)
-    (is : roots ≡ as_cells (length s.nodes) nodes records ++ behind)
+-- nodes and records that an order begins with are the first among its nodes and its records
+module _ (s : Parts) (order nodes records behind : List ℕ)
+    (is : order ≡ as_cells (length s.nodes) nodes records ++ behind)
     (below : AllByRecursion (λ x. x < length s.nodes) nodes) where
-  roots_first : Extends roots (order_of (all_cells s) roots)
-  roots_first = met_in_extends (all_cells s) roots (length (all_cells s))
-
-  order_is : order_of (all_cells s) roots ≡ as_cells (length s.nodes) nodes records ++ (behind ++ roots_first.rest)
-  order_is = roots_first.is ∙ ap (λ l. l ++ roots_first.rest) is ∙ append_assoc (as_cells _ nodes records) behind _
-
-  first_nodes : Extends nodes (nodes_of s (order_of (all_cells s) roots))
+  first_nodes : Extends nodes (nodes_of s order)
   first_nodes = record {
-    rest = nodes_of s (behind ++ roots_first.rest);
-    is = ap (nodes_of s) order_is ∙ nodes_first _ (length s.records) nodes records _ below;
+    rest = nodes_of s behind;
+    is = ap (nodes_of s) is ∙ nodes_first _ (length s.records) nodes records _ below;
   }
 
-  first_records : AllByRecursion (λ y. y < length s.records) records
-      → Extends records (records_of s (order_of (all_cells s) roots))
+  first_records : AllByRecursion (λ y. y < length s.records) records → Extends records (records_of s order)
   first_records records_below = record {
-    rest = records_of s (behind ++ roots_first.rest);
-    is = ap (records_of s) order_is ∙ records_first _ _ nodes records _ below records_below;
+    rest = records_of s behind;
+    is = ap (records_of s) is ∙ records_first _ _ nodes records _ below records_below;
   }
 
 -- what is met is in range
@@ -127,7 +121,8 @@ module _ (fixed : ℕ) (s : Parts) (h : ArePartsInRange fixed s) where
   fixed_all m l = numbers_all (λ x. x < m) 0 fixed (λ x g k. omega (arith, h.fixed_in_range))
 
   pub fixed_cells : IsRooted (parts_graph s ++ parts_held s) (numbers_from 0 fixed)
-  fixed_cells = cells_rooted fixed s h _ (fixed_all _ (omega (arith, length-cells s))) (distinct_in_row 0 fixed).distinct
+  fixed_cells =
+      cells_rooted fixed s h _ (fixed_all _ (omega (arith, length-cells s))) (distinct_in_row 0 fixed).distinct
 
   -- what is held plays no part in it
   pub front_same : order_of (parts_graph s ++ parts_held s) (numbers_from 0 fixed) ≡ front_order fixed s
@@ -137,9 +132,11 @@ module _ (fixed : ℕ) (s : Parts) (h : ArePartsInRange fixed s) where
 
   pub front_met : AreMet fixed s (front_nodes fixed s) (front_records fixed s)
   front_met =
+      let order = order_of (all_cells s) (numbers_from 0 fixed) in
+      let first = met_in_extends (all_cells s) (numbers_from 0 fixed) (length (all_cells s)) in
       subst (λ o. AreMet fixed s (nodes_of s o) (records_of s o)) front_same
       (order_met (numbers_from 0 fixed) fixed_cells
-      (first_nodes s (numbers_from 0 fixed) (numbers_from 0 fixed) [] [] (simp append-nil)
+      (first_nodes s order (numbers_from 0 fixed) [] first.rest (rw append-nil first.is)
       (recursion_from_All _ _ (fixed_all _ (omega arith)))))
 
   -- ---- behind nodes and records that have what they name
@@ -162,14 +159,21 @@ module _ (fixed : ℕ) (s : Parts) (h : ArePartsInRange fixed s) where
         (distinct_in_row m held) in
         cells_rooted fixed s h _ (λ k d l. omega (arith, roots.within k d l)) roots.distinct
 
+    all_behind : Extends (roots_behind s nodes records) (order_behind nodes records s)
+    all_behind = met_in_extends (all_cells s) (roots_behind s nodes records) (length (all_cells s))
+
+    begins : order_behind nodes records s
+        ≡ as_cells (length s.nodes) nodes records
+        ++ (numbers_from (length (parts_graph s)) (length (parts_held s)) ++ all_behind.rest)
+    begins = all_behind.is ∙ append_assoc (as_cells (length s.nodes) nodes records) _ _
+
     -- they stay in front
     pub nodes_extended : Extends nodes (nodes_met (length s.nodes) (order_behind nodes records s))
-    nodes_extended = first_nodes s (roots_behind s nodes records) nodes records _ refl met.nodes_below
+    nodes_extended = first_nodes s _ nodes records _ begins met.nodes_below
 
     pub records_extended : Extends records
         (records_met (length s.nodes) (length s.records) (order_behind nodes records s))
-    records_extended =
-        first_records s (roots_behind s nodes records) nodes records _ refl met.nodes_below met.records_below
+    records_extended = first_records s _ nodes records _ begins met.nodes_below met.records_below
 
     behind_met : AreMet fixed s (nodes_of s (order_behind nodes records s))
         (records_of s (order_behind nodes records s))
@@ -179,7 +183,7 @@ module _ (fixed : ℕ) (s : Parts) (h : ArePartsInRange fixed s) where
     held_has : (i : ℕ) → i < length s.held → Has (order_behind nodes records s) (length (parts_graph s) + i)
     held_has i l =
         let m = length (parts_graph s) in
-        has_extends (met_in_extends (all_cells s) (roots_behind s nodes records) (length (all_cells s))) (m + i)
+        has_extends all_behind (m + i)
         (rw (
           list_any-append,
           has_at (numbers_from m (length (parts_held s))) i (m + i)

@@ -1,7 +1,6 @@
 -- Canonical parts of two states.
-use Rattle.std.proofs.Common.{◌≡◌, ℕ, ◌+◌, ◌-◌, ◌<◌, ◌↔◌, ◌⊎◌, true, false, ◌&&◌, List, length, subst}
-use Rattle.std.proofs.Common.{inl, inr, arith}
-use Rattle.std.specs.Prelude.{nat_lt, nat_le}
+use Rattle.std.proofs.Common.{◌≡◌, ℕ, ◌+◌, ◌-◌, ◌<◌, ◌↔◌, List, length}
+use Rattle.std.proofs.Common.{refl, inl, inr, arith}
 use Rattle.std.specs.List.{AllZip, zip}
 use Rattle.std.proofs.lemmas.List.{length-map}
 use Rattle.tree_machine.specs.Pairing.{IsAmong}
@@ -13,8 +12,8 @@ use Rattle.tree_machine.specs.Laws.Cells.{AllZip-weaker, orders_paired}
 use Rattle.tree_machine.specs.Laws.CellLists.{numbers_zip, zip_join}
 use Rattle.tree_machine.specs.Laws.PartCells.{all_cells, length-parts_graph, Paired, held_long, cells_pairing}
 use Rattle.tree_machine.specs.Laws.PartCells.{paired_node, paired_record}
-use Rattle.tree_machine.specs.Laws.MetLists.{filter_zip, map_zip, test_node, test_other}
-use Rattle.tree_machine.specs.Laws.MetLists.{test_record, test_before, test_behind}
+use Rattle.tree_machine.specs.Laws.MetLists.{PassAlike, filter_zip, is_node, is_record, map_zip, test_node}
+use Rattle.tree_machine.specs.Laws.MetLists.{test_other, test_record, test_before, test_behind}
 use Rattle.tree_machine.specs.Laws.PartsBy.{by_same, paired_from_same}
 use Rattle.tree_machine.specs.Laws.Canonical.{fixed_cells, front_met, front_same}
 use Rattle.tree_machine.specs.Laws.Canonical.{roots_behind, rooted_behind, walk_held, walk_met}
@@ -23,18 +22,14 @@ module _ (P R : ℕ → ℕ → Type 0) (fixed : ℕ) (s t : Parts) (h : ArePart
     (p : IsPartsPairing P R fixed s t) where
   -- both are nodes that P pairs, or neither is a node
   nodes_apart : (x y : ℕ) → Paired P R s t x y
-      → ((nat_lt x (length s.nodes) ≡ true) × (nat_lt y (length t.nodes) ≡ true) × P x y)
-      ⊎ ((nat_lt x (length s.nodes) ≡ false) × (nat_lt y (length t.nodes) ≡ false))
+      → PassAlike (is_node (length s.nodes)) (is_node (length t.nodes)) P x y
   nodes_apart x y (inl (l, k, q)) = inl (test_node _ x l, test_node _ y k, q)
   nodes_apart x y (inr (l, k, q)) = inr (test_other _ x l, test_other _ y k)
 
   -- both are records that R pairs, or neither is a record
   records_apart : (x y : ℕ) → Paired P R s t x y
-      → (((nat_le (length s.nodes) x && nat_lt x (length s.nodes + length s.records)) ≡ true)
-      × ((nat_le (length t.nodes) y && nat_lt y (length t.nodes + length t.records)) ≡ true)
-      × R (x - length s.nodes) (y - length t.nodes))
-      ⊎ (((nat_le (length s.nodes) x && nat_lt x (length s.nodes + length s.records)) ≡ false)
-      × ((nat_le (length t.nodes) y && nat_lt y (length t.nodes + length t.records)) ≡ false))
+      → PassAlike (is_record (length s.nodes) (length s.records)) (is_record (length t.nodes) (length t.records))
+      (λ x y. R (x - length s.nodes) (y - length t.nodes)) x y
   records_apart x y (inl (l, k, q)) = inr (test_before _ _ x l, test_before _ _ y k)
   records_apart x y (inr (l, k, inl (i, j, q))) =
       inl (test_record _ _ x l (omega arith), test_record _ _ y k (omega arith), q)
@@ -60,7 +55,7 @@ module _ (P R : ℕ → ℕ → Type 0) (fixed : ℕ) (s t : Parts) (h : ArePart
       orders_paired (Paired P R s t) (all_cells s) (all_cells t) (numbers_from 0 fixed) (numbers_from 0 fixed)
       (fixed_cells fixed s h) (fixed_cells fixed t g)
       (cells_pairing P R s t fixed p (numbers_from 0 fixed) (numbers_from 0 fixed)
-      (numbers_zip (Paired P R s t) 0 0 fixed (λ i x y l e f.
+      (numbers_zip (Paired P R s t) 0 0 fixed fixed refl (λ i x y l e f.
       let same : x ≡ y = omega arith in
       rw same (paired_node P R s t fixed p y y (p.fixed_paired y (omega arith)))))) in
       split_pairs (front_order fixed s) (front_order fixed t) (rw (front_same fixed s h, front_same fixed t g) at z)
@@ -77,14 +72,12 @@ module _ (P R : ℕ → ℕ → Type 0) (fixed : ℕ) (s t : Parts) (h : ArePart
       (map_zip Q _ _ _ _
       (AllZip-weaker R (λ x y. Q (length s.nodes + x) (length t.nodes + y)) (paired_record P R s t fixed p)
       _ _ front.1)))
-      (subst (λ k. AllZip Q (numbers_from (length (parts_graph s)) (length (parts_held s)))
-      (numbers_from (length (parts_graph t)) k)) long
-      (numbers_zip Q (length (parts_graph s)) (length (parts_graph t)) (length (parts_held s))
+      (numbers_zip Q (length (parts_graph s)) (length (parts_graph t)) (length (parts_held s)) _ long
       (λ i x y l e f.
       let here = length-parts_graph s in
       let there = length-parts_graph t in
       let within : i < length s.held = rw length-map at l in
-      inr (omega arith, omega arith, inr (omega arith, omega arith, (omega arith, omega arith))))))
+      inr (omega arith, omega arith, inr (omega arith, omega arith, (omega arith, omega arith)))))
 
   -- and so is all that is met
   all_paired : AllZip P (met_nodes fixed s) (met_nodes fixed t) × AllZip R (met_records fixed s) (met_records fixed t)

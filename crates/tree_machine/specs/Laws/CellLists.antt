@@ -26,13 +26,15 @@ zip_join P [] [] us vs z w = w
 zip_join P (x ∷ xs) (y ∷ ys) us vs z w = (z.0, zip_join P xs ys us vs z.1 w)
 zip_join P _ _ us vs z w = absurd z
 
-pub numbers_zip : (P : ℕ → ℕ → Type 0) (a b n : ℕ)
-    → ((i x y : ℕ) → i < n → x ≡ a + i → y ≡ b + i → P x y) → AllZip P (numbers_from a n) (numbers_from b n)
-numbers_zip P a b zero h = tt
-numbers_zip P a b (suc n) h = (
+pub numbers_zip : (P : ℕ → ℕ → Type 0) (a b n m : ℕ) → n ≡ m
+    → ((i x y : ℕ) → i < n → x ≡ a + i → y ≡ b + i → P x y) → AllZip P (numbers_from a n) (numbers_from b m)
+numbers_zip P a b zero zero many h = tt
+numbers_zip P a b (suc n) (suc m) many h = (
   h 0 a b (omega arith) (omega arith) (omega arith),
-  numbers_zip P (suc a) (suc b) n (λ i x y l e f. h (suc i) x y (omega arith) (omega arith) (omega arith)),
+  numbers_zip P (suc a) (suc b) n m (omega arith)
+      (λ i x y l e f. h (suc i) x y (omega arith) (omega arith) (omega arith)),
 )
+numbers_zip P a b _ _ many h = absurd (omega arith)
 
 pub numbers_all : (P : ℕ → Type 0) (a n : ℕ) → ((x : ℕ) → a ≤ x → x < a + n → P x) → All P (numbers_from a n)
 numbers_all P a n h = All-from_recursion P (numbers_from a n) (go a n h)
@@ -51,8 +53,8 @@ pub record AreDistinctIn (low high : ℕ) (xs : List ℕ) : Type 0 where
   pub within : All (λ x. (low ≤ x) × (x < high)) xs
 
 -- two such lists end to end
-pub distinct_in_join : (a b c d : ℕ) (xs ys : List ℕ) → a ≤ c → b ≤ c → b ≤ d → AreDistinctIn a b xs → AreDistinctIn c d ys
-    → AreDistinctIn a d (xs ++ ys)
+pub distinct_in_join : (a b c d : ℕ) (xs ys : List ℕ) → a ≤ c → b ≤ c → b ≤ d → AreDistinctIn a b xs
+    → AreDistinctIn c d ys → AreDistinctIn a d (xs ++ ys)
 unfolding IsDistinct
 distinct_in_join a b c d xs ys low apart high h g = record {
   distinct = go xs h.distinct (λ k e l. (h.within k e l).1);
@@ -73,7 +75,8 @@ distinct_in_join a b c d xs ys low apart high h g = record {
 
 pub distinct_in_row : (a n : ℕ) → AreDistinctIn a (a + n) (numbers_from a n)
 unfolding IsDistinct
-distinct_in_row a n = record { distinct = go a n; within = numbers_all (λ x. (a ≤ x) × (x < a + n)) a n (λ x l k. (l, k)) }
+distinct_in_row a n =
+    record { distinct = go a n; within = numbers_all (λ x. (a ≤ x) × (x < a + n)) a n (λ x l k. (l, k)) }
   where
     go : (a n : ℕ) → IsDistinct nat_eq (numbers_from a n)
     go a zero = tt
@@ -85,7 +88,8 @@ distinct_in_row a n = record { distinct = go a n; within = numbers_all (λ x. (a
 
 pub numbers_distinct : (a f n t : ℕ) → a + f ≤ n → IsDistinct nat_eq (numbers_from a f ++ numbers_from n t)
 numbers_distinct a f n t l =
-    (distinct_in_join a (a + f) n (n + t) _ _ (omega arith) l (omega arith) (distinct_in_row a f) (distinct_in_row n t)).distinct
+    let both = distinct_in_join a _ n _ _ _ (omega arith) l (omega arith) (distinct_in_row a f) (distinct_in_row n t) in
+    both.distinct
 
 -- distinct numbers stay distinct under a map that is one to one among them
 pub mapped_distinct : (P : ℕ → Type 0) (f : ℕ → ℕ) → ((x y : ℕ) → P x → P y → f x ≡ f y → x ≡ y) → (xs : List ℕ)

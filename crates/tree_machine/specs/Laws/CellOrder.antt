@@ -5,12 +5,12 @@ use Rattle.std.proofs.Common.{add-zero, get_or, append-nil}
 use Rattle.std.specs.Prelude.{slice_get, Option, Some, None, nat_eq, ⊤, IfSome}
 use Rattle.std.specs.Cmp.{IsEquivalence}
 use Rattle.std.specs.List.{list_any, All, AllByRecursion, IsDistinct}
-use Rattle.std.proofs.lemmas.Bool.{cond_both, eq-eqb, eqb-true, or_cases}
-use Rattle.std.proofs.lemmas.List.Elements.{recursion_from_All, All-nil}
+use Rattle.std.proofs.lemmas.Bool.{cases_eq, cases_lt, cond_both, eq-eqb, eqb-true, or_cases}
+use Rattle.std.proofs.lemmas.List.Elements.{recursion_from_All, All-get_or}
 use Rattle.std.proofs.lemmas.List.Folds.{list_any-append}
 use Rattle.std.proofs.lemmas.Map.Keys.{IsDistinct-push}
 use Rattle.std.proofs.lemmas.Map.Steps.{length-le_from_distinct_below}
-use Rattle.std.proofs.lemmas.Option.{slice_get_past, slice_get_within, slice_get-get_or}
+use Rattle.std.proofs.lemmas.Option.{slice_get_past, slice_get_within, slice_get-get_or, unwrap_or-slice_get}
 use Rattle.std.proofs.Math.Bool.{or-false, or-true}
 use Rattle.tree_machine.specs.Cells.{Content, met, met_all, visited, met_in, content_at, order_of, IsRooted}
 use Rattle.tree_machine.specs.Laws.CellSteps.{same_tests}
@@ -135,18 +135,16 @@ all_from_has P [] h = tt
 all_from_has P (x ∷ xs) h =
     (h x (rw (has_itself x) refl), all_from_has P xs (λ y g. h y (rw g (or-true (nat_eq y x)))))
 
-pub content_all : (P : Content → Type 0) → P (record { facts = []; refs = [] }) → (cells : List Content)
-    → AllByRecursion P cells → (x : ℕ) → P (content_at cells x)
-content_all P none [] h x = none
-content_all P none (c ∷ cells) h zero = h.0
-content_all P none (c ∷ cells) h (suc x) = content_all P none cells h.1 x
-
 module _ (cells : List Content) (roots : List ℕ) (h : IsRooted cells roots) where
   refs_below : (x : ℕ) → RefsBelow (length cells) (content_at cells x).refs
   refs_below x =
-      recursion_from_All _ _
-      (content_all (λ c. All (λ r. IfSome r (λ x. x < length cells)) c.refs) (All-nil _) cells
-      (recursion_from_All _ cells h.refs_in_range) x)
+      elim (cases_lt x (length cells)) [
+        | inl l ↦
+            recursion_from_All _ _
+            (rw unwrap_or-slice_get (All-get_or (λ c. All (λ r. IfSome r (λ x. x < length cells)) c.refs) cells x _ l
+            h.refs_in_range))
+        | inr l ↦ rw (slice_get_past cells x l) tt
+      ]
 
   roots_order : IsOrder (length cells) roots
   roots_order = record {
@@ -194,18 +192,16 @@ get_before {xs} e n z at k x le h =
     let there = slice_get-get_or xs k x (omega arith) in
     cc (there, get_extends e k (get_or xs k x) there, h)
 
-below_or_at : (k n : ℕ) → k < suc n → (k < n) ⊎ (k ≡ n)
-below_or_at k n l = grind arith
-
 visited_closed : (cells : List Content) (n : ℕ) (order : List ℕ) → IsClosedBelow cells n order → (r : Option ℕ)
     → slice_get order n ≡ r → IsClosedBelow cells (suc n) (visited cells order r)
-visited_closed cells n order h None at k x l g = elim (below_or_at k n l) [ inl lt ↦ h k x lt g | inr e ↦ cc ]
+visited_closed cells n order h None at k x l g =
+    elim (cases_eq k n) [ inl e ↦ cc | inr other ↦ h k x (omega arith) g ]
 visited_closed cells n order h (Some z) at k x l g =
     let more = visited_extends cells order (Some z) in
     let here = get_before more n z at k x (omega arith) g in
-    elim (below_or_at k n l) [
-      | inl lt ↦ has_all_extends more (content_at cells x).refs (h k x lt here)
-      | inr e ↦ let same : z ≡ x = cc in rw (← same) (met_all_has (content_at cells z).refs order)
+    elim (cases_eq k n) [
+      | inl e ↦ let same : z ≡ x = cc in rw (← same) (met_all_has (content_at cells z).refs order)
+      | inr other ↦ has_all_extends more (content_at cells x).refs (h k x (omega arith) here)
     ]
 
 pub met_in_closed : (cells : List Content) (roots : List ℕ) (n : ℕ) → IsClosedBelow cells n (met_in cells roots n)
@@ -216,7 +212,6 @@ met_in_closed cells roots (suc n) = visited_closed cells n (met_in cells roots n
 pub order_closed : (cells : List Content) (roots : List ℕ) → IsRooted cells roots → (k x : ℕ)
     → slice_get (order_of cells roots) k ≡ Some x → HasAll (order_of cells roots) (content_at cells x).refs
 order_closed cells roots h k x at =
-    let within : k < length (order_of cells roots) = slice_get_within (order_of cells roots) k x at in
-    let short : length (order_of cells roots) ≤ length cells =
-    length-order (length cells) (order_of cells roots) (met_in_order cells roots h (length cells)) in
-    met_in_closed cells roots (length cells) k x (omega arith) at
+    let order = met_in_order cells roots h (length cells) in
+    met_in_closed cells roots (length cells) k x
+    (omega (arith, slice_get_within _ k x at, length-order (length cells) _ order)) at

@@ -1,15 +1,15 @@
 -- Canonical forms are equal exactly where the cells can be paired.
-use Rattle.std.proofs.Common.{◌≡◌, ℕ, ◌+◌, ◌↔◌, List, [], ◌∷◌, ◌++◌, map, length, refl, sym, ◌∙◌, ap, subst, inl, inr}
+use Rattle.std.proofs.Common.{◌≡◌, ℕ, zero, suc, ◌+◌, ◌↔◌, List, [], ◌∷◌, map, length, refl, sym, ◌∙◌, ap, subst}
 use Rattle.std.proofs.Common.{arith, add_comm}
-use Rattle.std.specs.Prelude.{Option, Some, None}
+use Rattle.std.specs.Prelude.{slice_get, Option, Some, None}
 use Rattle.std.specs.List.{AllZip, zip}
 use Rattle.std.specs.Option.{option_and_then}
 use Rattle.tree_machine.specs.Cells.{Content, IsPairedOrNone, IsPairing, CanBePaired, IsRooted, met_in, content_at}
 use Rattle.tree_machine.specs.Cells.{place_in, renamed, order_of, canonical}
 use Rattle.tree_machine.specs.Pairing.{IsAmong}
 use Rattle.tree_machine.specs.Laws.CellSteps.{met_in_paired}
-use Rattle.tree_machine.specs.Laws.CellOrder.{HasAll, met_in_order, met_in_stable, met_in_extends}
-use Rattle.tree_machine.specs.Laws.CellOrder.{order_closed}
+use Rattle.tree_machine.specs.Laws.CellOrder.{HasAll, get_extends, met_in_order, met_in_stable}
+use Rattle.tree_machine.specs.Laws.CellOrder.{met_in_extends, order_closed}
 use Rattle.tree_machine.specs.Laws.CellPlaces.{refs_renamed, place_from_has, get_place, has_at, among_at, at_among}
 use Rattle.tree_machine.specs.Laws.CellPlaces.{rel_among, zip_one}
 
@@ -55,15 +55,13 @@ AllZip-weaker P Q h [] [] z = tt
 AllZip-weaker P Q h (x ∷ xs) (y ∷ ys) z = (h x y z.0, AllZip-weaker P Q h xs ys z.1)
 AllZip-weaker P Q h _ _ z = absurd z
 
-fronts_paired : (xs ys vs ws : List ℕ) → length xs ≡ length ys → AllZip (IsAmong (zip (xs ++ vs) (ys ++ ws))) xs ys
-fronts_paired [] [] vs ws e = tt
-fronts_paired (x ∷ xs) (y ∷ ys) vs ws e = (
-  inl (refl, refl),
-  AllZip-weaker (IsAmong (zip (xs ++ vs) (ys ++ ws)))
-      (IsAmong (zip ((x ∷ xs) ++ vs) ((y ∷ ys) ++ ws))) (λ a b h. inr h) xs ys
-      (fronts_paired xs ys vs ws (omega arith)),
-)
-fronts_paired _ _ vs ws e = absurd (omega arith)
+-- lists of one length are paired where their elements are at each place
+zip_at_each : (P : ℕ → ℕ → Type 0) (xs ys : List ℕ) → length xs ≡ length ys
+    → ((k x y : ℕ) → slice_get xs k ≡ Some x → slice_get ys k ≡ Some y → P x y) → AllZip P xs ys
+zip_at_each P [] [] l h = tt
+zip_at_each P (x ∷ xs) (y ∷ ys) l h =
+    (h zero x y refl refl, zip_at_each P xs ys (omega arith) (λ k. h (suc k)))
+zip_at_each P _ _ l h = absurd (omega arith)
 
 pub refs_from_renamed : (xs ys : List ℕ) (refs sefs : List (Option ℕ)) → HasAll xs refs → HasAll ys sefs
     → map (option_and_then (place_in xs)) refs ≡ map (option_and_then (place_in ys)) sefs
@@ -102,7 +100,8 @@ module _ (cells others : List Content) (roots targets : List ℕ) (rooted : IsRo
         in_range = λ x y h.
             let p = at_among xs ys x y h in
             (here.below x (has_at xs p.0 x p.1), there.below y (has_at ys p.0 y p.2));
-        roots_paired = rw (front_x.is, front_y.is) (fronts_paired roots targets front_x.rest front_y.rest l);
+        roots_paired = zip_at_each _ roots targets l (λ k x y h g.
+            among_at xs ys k x y (get_extends front_x k x h) (get_extends front_y k y g));
         facts_equal = λ x y h. ap (λ c. c.facts) (rel_among _ xs ys same x y h);
         refs_paired = λ x y h.
             let p = at_among xs ys x y h in

@@ -1,6 +1,6 @@
 -- Bytes determine what they are of: nodes, records and what threads hold, and states.
-use Rattle.std.proofs.Common.{◌≡◌, ℕ, ◌⊎◌, List, [], ◌∷◌, ◌++◌, map, length, take, drop}
-use Rattle.std.proofs.Common.{refl, sym, ◌∙◌, ap, inl, inr, arith, append_assoc, append-nil, length-append}
+use Rattle.std.proofs.Common.{◌≡◌, ℕ, List, [], ◌∷◌, ◌++◌, map, length, take, drop}
+use Rattle.std.proofs.Common.{refl, sym, ◌∙◌, ap, arith, append_assoc, append-nil, length-append}
 use Rattle.std.specs.Prelude.{Option, Some, None}
 use Rattle.std.proofs.lemmas.List.{length-map, take-append-drop}
 use Rattle.tree_machine.specs.Cells.{Content}
@@ -73,32 +73,14 @@ graph_split ns rs ms ss xs ys e =
     let both = halves ns ms rs ss nodes.0 split.0 in
     (both.0, both.1, split.1)
 
--- what is left, if something is
-IsLeft : List Part → List Part → Type 0
-IsLeft ns rs = ((ns ≡ []) × (rs ≡ []) × (left_code ns rs ≡ [])) ⊎ (left_code ns rs ≡ graph_code ns rs)
-
-is_left : (ns rs : List Part) → IsLeft ns rs
-unfolding IsLeft
-is_left [] [] = inl (refl, refl, refl)
-is_left [] (r ∷ rs) = inr refl
-is_left (n ∷ ns) rs = inr refl
-
 graph_is_some : (ns rs : List Part) → [] ≡ graph_code ns rs → ⊥
 graph_is_some ns rs e = let long = simp length-append at (ap length e) in omega (arith, long)
 
 left_tells : (ns rs ms ss : List Part) → left_code ns rs ≡ left_code ms ss → (ns ≡ ms) × (rs ≡ ss)
-unfolding IsLeft
-left_tells ns rs ms ss e = go (is_left ns rs) (is_left ms ss)
-  where
-    go : IsLeft ns rs → IsLeft ms ss → (ns ≡ ms) × (rs ≡ ss)
-    go (inl p) (inl q) = (cc, cc)
-    go (inl p) (inr q) = absurd (graph_is_some ms ss (cc (p.2, e, q)))
-    go (inr p) (inl q) = absurd (graph_is_some ns rs (cc (q.2, e, p)))
-    go (inr p) (inr q) =
-        let split =
-        graph_split ns rs ms ss [] []
-        (append-nil (graph_code ns rs) ∙ cc (p, e, q) ∙ sym (append-nil (graph_code ms ss))) in
-        (split.0, split.1)
+left_tells [] [] [] [] e = (refl, refl)
+left_tells [] [] ms ss e = absurd (graph_is_some ms ss e)
+left_tells ns rs [] [] e = absurd (graph_is_some ns rs (sym e))
+left_tells ns rs ms ss e = let split = graph_split ns rs ms ss [] [] (simp append-nil e) in (split.0, split.1)
 
 -- equal bytes are of equal parts, cut alike
 pub parts_code_tells : (f g : Front) (s t : Parts) → length s.held ≡ length t.held → parts_code f s ≡ parts_code g t

@@ -1,6 +1,7 @@
 -- Lists of the nodes and of the records that are met: distinct, in range, and paired where the orders are.
 use Rattle.std.proofs.Common.{◌≡◌, ◌≢◌, ℕ, zero, suc, ◌+◌, ◌-◌, ◌<◌, ◌≤◌, ◌⊎◌, inl, inr, Bool, true, false}
-use Rattle.std.proofs.Common.{◌||◌, ◌&&◌, List, [], ◌∷◌, ◌++◌, map, length, refl, sym, ◌∙◌, ap, ap₂, arith, append-nil}
+use Rattle.std.proofs.Common.{◌||◌, ◌&&◌, List, [], ◌∷◌, ◌++◌, map, length, refl, sym, ◌∙◌, ap, ap₂, arith}
+use Rattle.std.proofs.Common.{append-nil, zero-add}
 use Rattle.std.specs.Prelude.{slice_get, Option, Some, None, nat_eq, nat_lt, nat_le}
 use Rattle.std.specs.List.{AllZip, AllByRecursion, filter, list_any, zip, IsDistinct}
 use Rattle.std.specs.Option.{option_and_then}
@@ -29,22 +30,21 @@ number_at a zero i l = absurd (omega arith)
 number_at a (suc n) zero l = ap Some (omega arith)
 number_at a (suc n) (suc i) l = number_at (suc a) n i (omega arith) ∙ ap Some (omega arith)
 
+-- a number below n is at its own place among them
+pub own_number : {n : ℕ} (x : ℕ) → x < n → slice_get (numbers_from 0 n) x ≡ Some x
+own_number {n} x l = number_at 0 n x l ∙ ap Some (zero-add x)
+
 -- the numbers of a list, each with its place
 abbrev pub places : List ℕ → List (ℕ × ℕ)
 places xs = zip xs (numbers_from 0 (length xs))
 
 pub among_places : (xs : List ℕ) (x k : ℕ) → slice_get xs k ≡ Some x → IsAmong (places xs) x k
-among_places xs x k h =
-    among_at xs (numbers_from 0 (length xs)) k x k h
-    (number_at 0 (length xs) k (slice_get_within xs k x h) ∙ ap Some (omega arith))
+among_places xs x k h = among_at xs _ k x k h (own_number k (slice_get_within xs k x h))
 
 pub places_among : (xs : List ℕ) (x k : ℕ) → IsAmong (places xs) x k → slice_get xs k ≡ Some x
 places_among xs x k h =
     let p = at_among xs (numbers_from 0 (length xs)) x k h in
-    let at : slice_get (numbers_from 0 (length xs)) p.0 ≡ Some (0 + p.0) =
-    number_at 0 (length xs) p.0 (slice_get_within xs p.0 x p.1) in
-    let is : 0 + p.0 ≡ k = cc (at, p.2) in
-    let same : p.0 ≡ k = omega arith in
+    let same : p.0 ≡ k = cc (own_number p.0 (slice_get_within xs p.0 x p.1), p.2) in
     rw (← same) p.1
 
 pub places_one : (xs : List ℕ) → IsDistinct nat_eq xs → IsOneToOne (IsAmong (places xs))
@@ -65,7 +65,8 @@ refs_placed xs (Some x ∷ refs) h =
 
 pub filter_distinct : (p : ℕ → Bool) (xs : List ℕ) → IsDistinct nat_eq xs → IsDistinct nat_eq (filter p xs)
 filter_distinct p xs d =
-    IsDistinct-from_AllPairs Decides-eqb _ (AllPairs-filter (λ x y. x ≢ y) p xs (AllPairs-from_IsDistinct Decides-eqb xs d))
+    IsDistinct-from_AllPairs Decides-eqb _
+    (AllPairs-filter (λ x y. x ≢ y) p xs (AllPairs-from_IsDistinct Decides-eqb xs d))
 
 filter_any : (p : ℕ → Bool) (xs : List ℕ) (x : ℕ)
     → list_any (nat_eq x) (filter p xs) ≡ (p x && list_any (nat_eq x) xs)
@@ -81,10 +82,12 @@ pub filter_none : (p : ℕ → Bool) (xs : List ℕ) → AllByRecursion (λ x. p
 filter_none p [] h = refl
 filter_none p (x ∷ xs) h = rw h.0 (filter_none p xs h.1)
 
--- of paired numbers both pass, and are paired by R, or neither does
-pub filter_zip : (Q R : ℕ → ℕ → Type 0) (p q : ℕ → Bool) → ((x y : ℕ) → Q x y
-    → ((p x ≡ true) × (q y ≡ true) × R x y) ⊎ ((p x ≡ false) × (q y ≡ false))) → (xs ys : List ℕ)
-    → AllZip Q xs ys → AllZip R (filter p xs) (filter q ys)
+-- both numbers pass and R pairs them, or neither passes
+abbrev pub PassAlike : (ℕ → Bool) → (ℕ → Bool) → (ℕ → ℕ → Type 0) → ℕ → ℕ → Type 0
+PassAlike p q R x y = ((p x ≡ true) × (q y ≡ true) × R x y) ⊎ ((p x ≡ false) × (q y ≡ false))
+
+pub filter_zip : (Q R : ℕ → ℕ → Type 0) (p q : ℕ → Bool) → ((x y : ℕ) → Q x y → PassAlike p q R x y)
+    → (xs ys : List ℕ) → AllZip Q xs ys → AllZip R (filter p xs) (filter q ys)
 filter_zip Q R p q h [] [] z = tt
 filter_zip Q R p q h (x ∷ xs) (y ∷ ys) z =
     let rest = filter_zip Q R p q h xs ys z.1 in
@@ -97,7 +100,13 @@ map_zip P f g [] [] z = tt
 map_zip P f g (x ∷ xs) (y ∷ ys) z = (z.0, map_zip P f g xs ys z.1)
 map_zip P f g _ _ z = absurd z
 
--- ---- numbers behind n
+-- ---- numbers of nodes, and of records behind n nodes
+
+abbrev pub is_node : ℕ → ℕ → Bool
+is_node n x = nat_lt x n
+
+abbrev pub is_record : ℕ → ℕ → ℕ → Bool
+is_record n r x = nat_le n x && nat_lt x (n + r)
 
 pub test_node : (n x : ℕ) → x < n → nat_lt x n ≡ true
 test_node n x l = grind (arith, nat_tests)
@@ -131,32 +140,31 @@ lowered_any n (x ∷ xs) y a = λ i. same_tests y (n + y) (x - n) x
 
 module _ (n : ℕ) (order : List ℕ) where
   pub node_has : (x : ℕ) → Has (nodes_met n order) x → Has order x × (x < n)
-  node_has x h = let r = filter_has (λ x. nat_lt x n) order x h in (r.0, ltb-true x n r.1)
+  node_has x h = let r = filter_has (is_node n) order x h in (r.0, ltb-true x n r.1)
 
   pub has_node : (x : ℕ) → Has order x → x < n → Has (nodes_met n order) x
-  has_node x h l = has_filter (λ x. nat_lt x n) order x h (test_node n x l)
+  has_node x h l = has_filter (is_node n) order x h (test_node n x l)
 
   pub nodes_below : AllByRecursion (λ x. x < n) (nodes_met n order)
   nodes_below = all_from_has _ _ (λ x h. (node_has x h).1)
 
   pub nodes_distinct : IsDistinct nat_eq order → IsDistinct nat_eq (nodes_met n order)
-  nodes_distinct d = filter_distinct (λ x. nat_lt x n) order d
+  nodes_distinct d = filter_distinct (is_node n) order d
 
   module _ (r : ℕ) where
-    kept_behind : AllByRecursion (λ x. n ≤ x) (filter (λ x. nat_le n x && nat_lt x (n + r)) order)
+    kept_behind : AllByRecursion (λ x. n ≤ x) (filter (is_record n r) order)
     kept_behind = all_from_has _ _ (λ x h. (record_test n r x (filter_has _ order x h).1).0)
 
     pub record_has : (y : ℕ) → Has (records_met n r order) y → Has order (n + y) × (y < r)
     record_has y h =
-        let k = filter_has (λ x. nat_le n x && nat_lt x (n + r)) order (n + y)
-        (sym (lowered_any n _ y kept_behind) ∙ h) in
+        let k = filter_has (is_record n r) order (n + y) (sym (lowered_any n _ y kept_behind) ∙ h) in
         let l = record_test n r (n + y) k.1 in
         (k.0, omega arith)
 
     pub has_record : (y : ℕ) → Has order (n + y) → y < r → Has (records_met n r order) y
     has_record y h l =
         lowered_any n _ y kept_behind
-        ∙ has_filter (λ x. nat_le n x && nat_lt x (n + r)) order (n + y) h
+        ∙ has_filter (is_record n r) order (n + y) h
         (test_record n r (n + y) (omega arith) (omega arith))
 
     pub records_below : AllByRecursion (λ y. y < r) (records_met n r order)

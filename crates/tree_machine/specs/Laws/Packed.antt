@@ -54,14 +54,13 @@ digits_of_number zero [] bounded = refl
 digits_of_number zero (reply ∷ replies) bounded = absurd (omega arith)
 digits_of_number (suc most) [] bounded = refl
 digits_of_number (suc most) (reply ∷ replies) bounded =
-    let rest : digits_of most (replies_number replies) ≡ replies =
-    digits_of_number most replies (omega arith) in
+    let n = replies_number replies in
     rw (
-      not_one reply (replies_number replies) (replies_least replies),
-      digit_back reply (replies_number replies),
-      half_back reply (replies_number replies),
-      rest,
-    ) refl
+      not_one reply n (replies_least replies),
+      digit_back reply n,
+      half_back reply n,
+      digits_of_number most replies (omega arith),
+    )
 
 -- ---- how many there are, and each of them
 

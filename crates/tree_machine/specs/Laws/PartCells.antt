@@ -6,7 +6,7 @@ use Rattle.std.specs.List.{AllZip, All, IsDistinct}
 use Rattle.std.specs.Option.{option_map}
 use Rattle.std.proofs.lemmas.List.{length-map}
 use Rattle.std.proofs.lemmas.List.Elements.{All-append, All-get_or, All-map, All-weaker, AllZip-get_or, length_all_zip}
-use Rattle.std.proofs.lemmas.Option.{slice_get-get_or, slice_get-map, unwrap_or-slice_get}
+use Rattle.std.proofs.lemmas.Option.{IfSome_then, slice_get-get_or, slice_get-map, unwrap_or-slice_get}
 use Rattle.tree_machine.specs.Cells.{Content, content_at, IsPairedOrNone, IsPairing, IsRooted}
 use Rattle.tree_machine.specs.Pairing.{IsOneToOne}
 use Rattle.tree_machine.specs.Parts.{Part, Parts, part_at, ArePartsPaired, IsPartsPairing, IsPartBelow, ArePartsInRange}
@@ -65,14 +65,10 @@ RefsBelow n c = All (λ r. IfSome r (λ x. x < n)) c.refs
 part_refs_below : (n r m : ℕ) → n + r ≤ m → (p : Part) → IsPartBelow n r p → RefsBelow m (part_cell n p)
 part_refs_below n r m l p h =
     All-append (λ x. IfSome x (λ y. y < m)) p.nodes _
-    (All-weaker _ _ wider p.nodes h.nodes)
+    (All-weaker _ _ (λ x k. IfSome_then x {P = λ y. y < n} {Q = λ y. y < m} k (λ y less. omega arith)) p.nodes h.nodes)
     (All-map (λ x. IfSome x (λ y. y < m)) (option_map (λ x. n + x)) p.records
     (All-weaker _ _ raised p.records h.records))
   where
-    wider : (x : Option ℕ) → IfSome x (λ y. y < n) → IfSome x (λ y. y < m)
-    wider None k = tt
-    wider (Some y) k = omega arith
-
     raised : (x : Option ℕ) → IfSome x (λ y. y < r) → IfSome (option_map (λ x. n + x) x) (λ y. y < m)
     raised None k = tt
     raised (Some y) k = omega arith

@@ -1,6 +1,6 @@
 -- Parts that are renamed by nodes and records: paired with those they come from, in range, and the same where these
 -- are paired.
-use Rattle.std.proofs.Common.{◌≡◌, ℕ, ◌<◌, ◌≤◌, List, [], ◌∷◌, map, length, refl, ◌∙◌, ap, arith, get_or, zero-add}
+use Rattle.std.proofs.Common.{◌≡◌, ℕ, ◌<◌, ◌≤◌, List, [], ◌∷◌, map, length, refl, ap, arith, get_or}
 use Rattle.std.specs.Prelude.{slice_get, Option, Some, None, nat_eq, IfSome}
 use Rattle.std.specs.List.{AllZip, All, AllByRecursion, IsDistinct, zip}
 use Rattle.std.specs.Option.{option_and_then}
@@ -16,7 +16,7 @@ use Rattle.tree_machine.specs.Laws.Cells.{map_paired, unmap, refs_from_renamed}
 use Rattle.tree_machine.specs.Laws.CellOrder.{Has, HasAll, Extends, all_has, get_extends}
 use Rattle.tree_machine.specs.Laws.CellLists.{numbers_all}
 use Rattle.tree_machine.specs.Laws.CellPlaces.{refs_renamed, get_place, has_at, among_at, at_among, rel_among, zip_one}
-use Rattle.tree_machine.specs.Laws.MetLists.{number_at, places, among_places, places_among, places_one, refs_placed}
+use Rattle.tree_machine.specs.Laws.MetLists.{own_number, places, among_places, places_among, places_one, refs_placed}
 
 -- the nodes and the records that a part names are among these
 abbrev pub IsPartMet : List ℕ → List ℕ → Part → Type 0
@@ -31,10 +31,6 @@ pub record AreMet (fixed : ℕ) (s : Parts) (nodes records : List ℕ) : Type 0 
   pub fixed_first : Extends (numbers_from 0 fixed) nodes
   pub nodes_closed : (x : ℕ) → Has nodes x → IsPartMet nodes records (part_at s.nodes x)
   pub records_closed : (y : ℕ) → Has records y → IsPartMet nodes records (part_at s.records y)
-
--- a number below n is at its own place among them
-pub own_number : {n : ℕ} (x : ℕ) → x < n → slice_get (numbers_from 0 n) x ≡ Some x
-own_number {n} x l = number_at 0 n x l ∙ ap Some (zero-add x)
 
 -- the part of a map at a place
 pub part_map_at : {A : Type 0} (f : A → Part) (xs : List A) (k : ℕ) (x : A) → slice_get xs k ≡ Some x
