@@ -80,15 +80,14 @@ module _ (P R : ℕ → ℕ → Type 0) (fixed : ℕ) (s t : Parts) (h : ArePart
       inr (omega arith, omega arith, inr (omega arith, omega arith, (omega arith, omega arith)))))
 
   -- and so is all that is met
-  all_paired : AllZip P (met_nodes fixed s) (met_nodes fixed t) × AllZip R (met_records fixed s) (met_records fixed t)
-  all_paired =
+  pub same_from_pairing : canonical_parts fixed s ≡ canonical_parts fixed t
+  same_from_pairing =
+      let z =
       split_pairs (parts_order fixed s) (parts_order fixed t)
       (orders_paired (Paired P R s t) (all_cells s) (all_cells t) _ _
       (rooted_behind fixed s h _ _ (front_met fixed s h)) (rooted_behind fixed t g _ _ (front_met fixed t g))
-      (cells_pairing P R s t fixed p _ _ roots_paired))
-
-  pub same_from_pairing : canonical_parts fixed s ≡ canonical_parts fixed t
-  same_from_pairing = let z = all_paired in by_same P R fixed s t _ _ _ _ p z.0 z.1
+      (cells_pairing P R s t fixed p _ _ roots_paired)) in
+      by_same P R fixed s t _ _ _ _ p z.0 z.1
 
 -- canonical parts are equal exactly if the parts can be paired
 pub canonical_exactly : (fixed : ℕ) (s t : Parts) → ArePartsInRange fixed s → ArePartsInRange fixed t

@@ -1,5 +1,5 @@
 -- The cells that a walk meets, in their order: distinct, in range, and closed.
-use Rattle.std.proofs.Common.{◌≡◌, ℕ, zero, suc, ◌+◌, ◌<◌, ◌≤◌, ◌⊎◌, true, List, [], ◌∷◌}
+use Rattle.std.proofs.Common.{◌≡◌, ℕ, zero, suc, ◌+◌, ◌<◌, ◌≤◌, true, List, [], ◌∷◌}
 use Rattle.std.proofs.Common.{◌++◌, length, refl, sym, ap, subst, inl, inr, arith, append_assoc, add-suc}
 use Rattle.std.proofs.Common.{add-zero, get_or, append-nil}
 use Rattle.std.specs.Prelude.{slice_get, Option, Some, None, nat_eq, ⊤, IfSome}
@@ -91,18 +91,14 @@ pub record IsOrder (n : ℕ) (order : List ℕ) : Type 0 where
   pub distinct : IsDistinct nat_eq order
   pub below : (x : ℕ) → Has order x → x < n
 
-has_push_cases : (order : List ℕ) (x y : ℕ) → Has (order ++ x ∷ []) y → Has order y ⊎ (y ≡ x)
-has_push_cases order x y h =
-    elim (or_cases (list_any (nat_eq y) order) (nat_eq y x) (rw (list_any-append, or-false) at h)) [
-      | inl e ↦ inl e
-      | inr e ↦ inr (eqb-true y x e)
-    ]
-
 pub met_order : (n : ℕ) (order : List ℕ) (x : ℕ) → x < n → IsOrder n order → IsOrder n (met order x)
 met_order n order x l h =
     cond_both (list_any (nat_eq x) order) order _ (IsOrder n) (λ _. h) (λ e. record {
       distinct = IsDistinct-push nat_equivalence order x h.distinct e;
-      below = λ y g. elim (has_push_cases order x y g) [ inl m ↦ h.below y m | inr m ↦ rw m l ];
+      below = λ y g. elim (or_cases (list_any (nat_eq y) order) (nat_eq y x) (rw (list_any-append, or-false) at g)) [
+        | inl m ↦ h.below y m
+        | inr m ↦ rw (eqb-true y x m) l
+      ];
     })
 
 -- each ref is none or below n
@@ -146,19 +142,16 @@ module _ (cells : List Content) (roots : List ℕ) (h : IsRooted cells roots) wh
         | inr l ↦ rw (slice_get_past cells x l) tt
       ]
 
-  roots_order : IsOrder (length cells) roots
-  roots_order = record {
-    distinct = h.roots_distinct;
-    below = all_has (λ x. x < length cells) roots (recursion_from_All _ roots h.roots_in_range);
-  }
-
   visited_order : (order : List ℕ) (r : Option ℕ) → IsOrder (length cells) order
       → IsOrder (length cells) (visited cells order r)
   visited_order order None g = g
   visited_order order (Some x) g = met_all_order (length cells) (content_at cells x).refs order (refs_below x) g
 
   pub met_in_order : (n : ℕ) → IsOrder (length cells) (met_in cells roots n)
-  met_in_order zero = roots_order
+  met_in_order zero = record {
+    distinct = h.roots_distinct;
+    below = all_has (λ x. x < length cells) roots (recursion_from_All _ roots h.roots_in_range);
+  }
   met_in_order (suc n) = visited_order (met_in cells roots n) _ (met_in_order n)
 
   -- after a visit for each cell there is nothing more to visit
@@ -184,21 +177,15 @@ met_in_extends cells roots (suc n) =
 abbrev IsClosedBelow : List Content → ℕ → List ℕ → Type 0
 IsClosedBelow cells n order = (k x : ℕ) → k < n → slice_get order k ≡ Some x → HasAll order (content_at cells x).refs
 
--- an element before the place n of a longer list, where the shorter one has a place n
-get_before : {xs ys : List ℕ} → Extends xs ys → (n z : ℕ) → slice_get xs n ≡ Some z → (k x : ℕ) → k ≤ n
-    → slice_get ys k ≡ Some x → slice_get xs k ≡ Some x
-get_before {xs} e n z at k x le h =
-    let far : n < length xs = slice_get_within xs n z at in
-    let there = slice_get-get_or xs k x (omega arith) in
-    cc (there, get_extends e k (get_or xs k x) there, h)
-
 visited_closed : (cells : List Content) (n : ℕ) (order : List ℕ) → IsClosedBelow cells n order → (r : Option ℕ)
     → slice_get order n ≡ r → IsClosedBelow cells (suc n) (visited cells order r)
 visited_closed cells n order h None at k x l g =
     elim (cases_eq k n) [ inl e ↦ cc | inr other ↦ h k x (omega arith) g ]
 visited_closed cells n order h (Some z) at k x l g =
     let more = visited_extends cells order (Some z) in
-    let here = get_before more n z at k x (omega arith) g in
+    let far = slice_get_within order n z at in
+    let there = slice_get-get_or order k x (omega arith) in
+    let here : slice_get order k ≡ Some x = cc (there, get_extends more k (get_or order k x) there, g) in
     elim (cases_eq k n) [
       | inl e ↦ let same : z ≡ x = cc in rw (← same) (met_all_has (content_at cells z).refs order)
       | inr other ↦ has_all_extends more (content_at cells x).refs (h k x (omega arith) here)

@@ -65,38 +65,20 @@ short_or_long (first ∷ more) refs =
       | inr e ↦ inr (rw e refl)
     ]
 
-long_split : (fs gs : List ℕ) (r s : ℕ) (xs ys : List ℕ) → long_code fs r ++ xs ≡ long_code gs s ++ ys
-    → (fs ≡ gs) × (r ≡ s) × (xs ≡ ys)
-long_split fs gs r s xs ys e =
-    let whole = simp append_assoc at e in
-    let lengths = number_read (length fs) (length gs) _ _ (cc whole) in
-    let refs = number_read r s _ _ lengths.1 in
-    let facts = each_readable number_code number_split fs gs xs ys lengths.0 refs.1 in
-    (facts.0, refs.0, facts.1)
-
-short_split : (a b : ℕ) (ms ns : List ℕ) (r s : ℕ) (xs ys : List ℕ) → a < 6 → length ms < 5 → r < 8 → b < 6
-    → length ns < 5 → s < 8 → (length ms + 5 * a + 30 * r) ∷ (flat_map number_code ms ++ xs)
-    ≡ (length ns + 5 * b + 30 * s) ∷ (flat_map number_code ns ++ ys) →
-    (a ∷ ms ≡ b ∷ ns) × (r ≡ s) × (xs ≡ ys)
-short_split a b ms ns r s xs ys h1 h2 h3 h4 h5 h6 e =
-    let head : length ms + 5 * a + 30 * r ≡ length ns + 5 * b + 30 * s = cc in
-    let behind : flat_map number_code ms ++ xs ≡ flat_map number_code ns ++ ys = cc in
-    let refs : r ≡ s = omega arith in
-    let first : a ≡ b = omega arith in
-    let lengths : length ms ≡ length ns = omega arith in
-    let facts = each_readable number_code number_split ms ns xs ys lengths behind in
-    (cc facts.0, refs, facts.1)
-
 pub facts_split : (fs gs : List ℕ) (r s : ℕ) (xs ys : List ℕ) → facts_code fs r ++ xs ≡ facts_code gs s ++ ys
     → (fs ≡ gs) × (r ≡ s) × (xs ≡ ys)
 unfolding IsShortOrLong
 facts_split fs gs r s xs ys e = go (short_or_long fs r) (short_or_long gs s)
   where
     go : IsShortOrLong fs r → IsShortOrLong gs s → (fs ≡ gs) × (r ≡ s) × (xs ≡ ys)
-    go (inl p) (inl q) =
-        let same =
-        short_split p.0 q.0 p.1 q.1 r s xs ys p.3 p.4 p.5 q.3 q.4 q.5 (rw (p.6, q.6) at e) in
-        (cc (p.2, same.0, q.2), same.1, same.2)
+    go (inl (a, ms, f, low, few, small, p)) (inl (b, ns, g, down, less, little, q)) =
+        let bytes = rw (p, q) at e in
+        let head : length ms + 5 * a + 30 * r ≡ length ns + 5 * b + 30 * s = cc bytes in
+        let behind : flat_map number_code ms ++ xs ≡ flat_map number_code ns ++ ys = cc bytes in
+        let refs : r ≡ s = omega arith in
+        let first : a ≡ b = omega arith in
+        let facts = each_readable number_code number_split ms ns xs ys (omega arith) behind in
+        (cc (f, g, first, facts.0), refs, facts.1)
     go (inl p) (inr q) =
         let heads = rw (p.6, q) at e in
         let head : length p.1 + 5 * p.0 + 30 * r ≡ 255 = cc heads in
@@ -105,4 +87,9 @@ facts_split fs gs r s xs ys e = go (short_or_long fs r) (short_or_long gs s)
         let heads = rw (p, q.6) at e in
         let head : 255 ≡ length q.1 + 5 * q.0 + 30 * s = cc heads in
         absurd (omega (arith, q.3, q.4, q.5, head))
-    go (inr p) (inr q) = long_split fs gs r s xs ys (rw (p, q) at e)
+    go (inr p) (inr q) =
+        let bytes = simp append_assoc at (rw (p, q) at e) in
+        let lengths = number_read (length fs) (length gs) _ _ (cc bytes) in
+        let refs = number_read r s _ _ lengths.1 in
+        let facts = each_readable number_code number_split fs gs xs ys lengths.0 refs.1 in
+        (facts.0, refs.0, facts.1)

@@ -172,9 +172,6 @@ module _ (fixed : ℕ) (front : Front) (t : Parts) (h : ArePartsInRange fixed t)
 take_cut : (f : ℕ) (ps : List Part) → take (length (take f ps)) ps ≡ take f ps
 take_cut f ps = rw (length-take, take_min)
 
-cut_code_is : (front : Front) (s : Parts) → front_code (cut_front front s) s ≡ front_code front s
-cut_code_is front s = λ i. graph_code (take_cut front.nodes s.nodes i) (take_cut front.records s.records i)
-
 -- by own numbers all that was read comes in front
 pub own_parts_code : (s : Parts) → parts_code (all_front s) s ≡ graph_code s.nodes s.records ++ part_codes s.held
 own_parts_code s = simp (take-length, drop-length, append-nil)
@@ -215,7 +212,9 @@ pub canonical_completes : (fixed : ℕ) (front : Front) (s : Parts) → AreParts
     → IsMetInOrder fixed (cut_front front s) s
     → front_code front s ++ behind_code (cut_front front s) (canonical_parts fixed s) ≡ canonical_code fixed s
 canonical_completes fixed front s range met =
-    let own = front_own fixed (cut_front front s) s range met ∙ cut_code_is front s in
+    let own =
+    front_own fixed (cut_front front s) s range met
+    ∙ (λ i. graph_code (take_cut front.nodes s.nodes i) (take_cut front.records s.records i)) in
     let is = front_is fixed (cut_front front s) s range met in
     λ i. sym own i ++ behind_code (sym is i) (canonical_parts fixed s)
 

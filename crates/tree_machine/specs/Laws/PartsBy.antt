@@ -99,16 +99,12 @@ module _ (nodes records : List ℕ) where
       }
 
   -- what is renamed is in range
-  part_below : (p : Part) → IsPartBelow (length nodes) (length records) (renamed_part nodes records p)
-  part_below p = record {
-    nodes = placed_below nodes p.nodes;
-    records = placed_below records p.records;
-  }
-
   parts_below : {A : Type 0} {n r : ℕ} → n ≡ length nodes → r ≡ length records → (g : A → Part) (xs : List A)
       → All (IsPartBelow n r) (map (λ x. renamed_part nodes records (g x)) xs)
   parts_below {n = n} {r = r} e f g xs =
-      All-map (IsPartBelow n r) _ xs (λ k d l. rw (e, f) (part_below (g (get_or xs k d))))
+      All-map (IsPartBelow n r) _ xs (λ k d l.
+      let p = g (get_or xs k d) in
+      rw (e, f) (record { nodes = placed_below nodes p.nodes; records = placed_below records p.records }))
 
   pub by_in_range : (fixed : ℕ) (s : Parts) → fixed ≤ length nodes → ArePartsInRange fixed (parts_by nodes records s)
   by_in_range fixed s l =
