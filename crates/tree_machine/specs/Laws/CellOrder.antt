@@ -1,7 +1,6 @@
 -- The cells that a walk meets, in their order: distinct, in range, and closed.
-use Rattle.std.proofs.Common.{◌≡◌, ℕ, zero, suc, ◌+◌, ◌<◌, ◌≤◌, true, List, [], ◌∷◌}
-use Rattle.std.proofs.Common.{◌++◌, length, refl, sym, ap, subst, inl, inr, arith, append_assoc, add-suc}
-use Rattle.std.proofs.Common.{add-zero, get_or, append-nil}
+use Rattle.std.proofs.Common.{◌≡◌, ℕ, zero, suc, ◌+◌, ◌<◌, ◌≤◌, true, List, [], ◌∷◌, ◌++◌, length, refl, sym, ap, subst}
+use Rattle.std.proofs.Common.{inl, inr, arith, append_assoc, add-suc, add-zero, get_or, append-nil}
 use Rattle.std.specs.Prelude.{slice_get, Option, Some, None, nat_eq, ⊤, IfSome}
 use Rattle.std.specs.Cmp.{IsEquivalence}
 use Rattle.std.specs.List.{list_any, All, AllByRecursion, IsDistinct}

@@ -10,13 +10,12 @@ use Rattle.sched_program.specs.Laws.Exact.{nat_exact, list_exact}
 use Rattle.tree_machine.specs.Laws.CellOrder.{nat_equivalence}
 use Rattle.tree_machine.specs.Alike.{FormContent, notes_of, places_of, replies_of}
 use Rattle.tree_machine.specs.Laws.StateExact.{same_answer}
-use Rattle.tree_machine.specs.FormCode.{list_code, replies_code, note_code, astray_code, content_code}
-use Rattle.tree_machine.specs.FormCode.{IsInjective}
+use Rattle.tree_machine.specs.FormCode.{list_code, replies_code, note_code, astray_code, content_code, IsInjective}
 use Rattle.tree_machine.specs.Laws.Flat.{number_split, IsReadable, each_readable}
 use Rattle.tree_machine.specs.Laws.Packed.{digits_of_number}
 use Rattle.tree_machine.specs.Laws.ShortNotes.{counts_of_number, number_below}
 use Rattle.tree_machine.specs.declared.state.State.{State}
-use Rattle.tree_machine.specs.Packed.{counts_in, digits_of, is_short, note_number, replies_number}
+use Rattle.tree_machine.specs.Packed.{digits_of, is_short, note_number, replies_number}
 
 -- what the bytes of a state are of, behind its steps
 abbrev pub state_content : {Machine Memory Place Form : Type 0} → (Memory → List (Option Place) → List ℕ)
@@ -58,22 +57,15 @@ note_readable cs ds xs ys e = go (is_short cs) (is_short ds) refl refl e
         if short then note_number counts / 256 ∷ note_number counts % 256 ∷ [] else 255 ∷ length counts ∷ counts
 
     go : (short other : Bool) → is_short cs ≡ short → is_short ds ≡ other
-        → code (is_short cs) cs ++ xs ≡ code (is_short ds) ds ++ ys → (cs ≡ ds) × (xs ≡ ys)
+        → code short cs ++ xs ≡ code other ds ++ ys → (cs ≡ ds) × (xs ≡ ys)
     go true true c d e =
-        let same = rw (c, d) at e in
-        let high : note_number cs / 256 ≡ note_number ds / 256 = cc same in
-        let low : note_number cs % 256 ≡ note_number ds % 256 = cc same in
+        let high : note_number cs / 256 ≡ note_number ds / 256 = cc in
+        let low : note_number cs % 256 ≡ note_number ds % 256 = cc in
         let number : note_number cs ≡ note_number ds = omega arith in
-        (sym (counts_of_number cs c) ∙ (ap counts_in number ∙ counts_of_number ds d), cc same)
-    go true false c d e =
-        let same = rw (c, d) at e in
-        let high : note_number cs / 256 ≡ 255 = cc same in
-        absurd (omega (arith, number_below cs c))
-    go false true c d e =
-        let same = rw (c, d) at e in
-        let high : 255 ≡ note_number ds / 256 = cc same in
-        absurd (omega (arith, number_below ds d))
-    go false false c d e = let same = rw (c, d) at e in halves cs ds xs ys (cc same) (cc same)
+        (cc (counts_of_number cs c, counts_of_number ds d, number), cc)
+    go true false c d e = let high : note_number cs / 256 ≡ 255 = cc in absurd (omega (arith, number_below cs c))
+    go false true c d e = let high : 255 ≡ note_number ds / 256 = cc in absurd (omega (arith, number_below ds d))
+    go false false c d e = halves cs ds xs ys (cc) (cc)
 
 astray_readable : IsReadable astray_code
 astray_readable None None xs ys e = (refl, cc)

@@ -1,7 +1,6 @@
 -- Lists of the nodes and of the records that are met: distinct, in range, and paired where the orders are.
-use Rattle.std.proofs.Common.{◌≡◌, ◌≢◌, ℕ, zero, suc, ◌+◌, ◌-◌, ◌<◌, ◌≤◌, ◌⊎◌, inl, inr, Bool, true, false}
-use Rattle.std.proofs.Common.{◌||◌, ◌&&◌, List, [], ◌∷◌, ◌++◌, map, length, refl, sym, ◌∙◌, ap, ap₂, arith}
-use Rattle.std.proofs.Common.{append-nil, zero-add}
+use Rattle.std.proofs.Common.{◌≡◌, ◌≢◌, ℕ, zero, suc, ◌+◌, ◌-◌, ◌<◌, ◌≤◌, ◌⊎◌, inl, inr, Bool, true, false, ◌||◌, ◌&&◌}
+use Rattle.std.proofs.Common.{List, [], ◌∷◌, ◌++◌, map, length, refl, sym, ◌∙◌, ap, ap₂, arith, append-nil, zero-add}
 use Rattle.std.specs.Prelude.{slice_get, Option, Some, None, nat_eq, nat_lt, nat_le}
 use Rattle.std.specs.List.{AllZip, AllByRecursion, filter, list_any, zip, IsDistinct}
 use Rattle.std.specs.Option.{option_and_then}
