@@ -17,11 +17,10 @@ use Rattle.tree_machine.specs.Parts.{part_cell, parts_graph, parts_held, CanPart
 use Rattle.tree_machine.specs.Canonical.{nodes_met, records_met, front_order, front_nodes, front_records, as_cells}
 use Rattle.tree_machine.specs.Canonical.{order_behind, met_nodes, met_records, canonical_parts}
 use Rattle.tree_machine.specs.Laws.CellLists.{AreDistinctIn, distinct_in_join, distinct_in_raised, distinct_in_row}
-use Rattle.tree_machine.specs.Laws.CellLists.{numbers_all}
+use Rattle.tree_machine.specs.Laws.CellLists.{numbers_all, order_front}
 use Rattle.tree_machine.specs.Laws.CellOrder.{Has, HasAll, RefsBelow, Extends, extends_more, has_extends}
 use Rattle.tree_machine.specs.Laws.CellOrder.{met_in_order, met_in_extends, order_closed}
 use Rattle.tree_machine.specs.Laws.CellPlaces.{place_from_has, get_place, has_at}
-use Rattle.tree_machine.specs.Laws.CellWalks.{order_front}
 use Rattle.tree_machine.specs.Laws.PartCells.{all_cells, part_all, length-parts_graph, length-cells, node_at}
 use Rattle.tree_machine.specs.Laws.PartCells.{record_at, held_at, cells_rooted, graph_rooted}
 use Rattle.tree_machine.specs.Laws.Graphs.{length-numbers_from}

@@ -1,13 +1,16 @@
--- Lists of cells and of numbers, end to end.
+-- Lists of cells and of numbers, end to end, and walks of cells in front of others.
 use Rattle.std.proofs.Common.{◌≡◌, ℕ, zero, suc, ◌+◌, ◌<◌, ◌≤◌, false, List, [], ◌∷◌, ◌++◌, map, length, ◌∙◌, ap, arith}
-use Rattle.std.specs.Prelude.{nat_eq}
+use Rattle.std.proofs.Common.{length-append, refl}
+use Rattle.std.specs.Prelude.{slice_get, Option, Some, None, nat_eq}
 use Rattle.std.specs.List.{AllZip, All, AllByRecursion, IsDistinct}
 use Rattle.std.proofs.lemmas.List.Elements.{All-append, All-from_recursion, All-head, All-map, All-tail}
 use Rattle.std.proofs.lemmas.List.Elements.{recursion_from_All}
 use Rattle.std.proofs.lemmas.List.{get_or_append_left, get_or-append-add}
 use Rattle.std.proofs.lemmas.Option.{unwrap_or-slice_get}
-use Rattle.tree_machine.specs.Cells.{Content, content_at}
+use Rattle.tree_machine.specs.Cells.{Content, IsRooted, content_at, met_all, visited, met_in, order_of}
 use Rattle.tree_machine.specs.Graphs.{numbers_from}
+use Rattle.tree_machine.specs.Laws.CellOrder.{IsOrder, met_in_order, met_in_stable}
+use Rattle.tree_machine.specs.Laws.CellPlaces.{has_at}
 use Rattle.tree_machine.specs.Laws.CellSteps.{same_tests, is_other}
 
 -- ---- lists end to end
@@ -112,3 +115,23 @@ distinct_in_raised n r xs h = record {
   within =
       All-map (λ x. (n ≤ x) × (x < n + r)) _ xs (λ k d l. let p = h.within k d l in (omega arith, omega arith));
 }
+
+-- ---- a walk goes the same way where other cells come behind
+
+module _ (graph held : List Content) (roots : List ℕ) (h : IsRooted graph roots) where
+  visited_front : (order : List ℕ) (n : ℕ) → IsOrder (length graph) order → (r : Option ℕ) → slice_get order n ≡ r
+      → visited (graph ++ held) order r ≡ visited graph order r
+  visited_front order n o None e = refl
+  visited_front order n o (Some x) e =
+      ap (λ c. met_all order c.refs) (content_front graph held x (o.below x (has_at order n x e)))
+
+  met_in_front : (n : ℕ) → met_in (graph ++ held) roots n ≡ met_in graph roots n
+  met_in_front zero = refl
+  met_in_front (suc n) =
+      ap (λ o. visited (graph ++ held) o (slice_get o n)) (met_in_front n)
+      ∙ visited_front (met_in graph roots n) n (met_in_order graph roots h n) _ refl
+
+  pub order_front : order_of (graph ++ held) roots ≡ order_of graph roots
+  order_front =
+      ap (met_in (graph ++ held) roots) (length-append graph held)
+      ∙ (met_in_front (length graph + length held) ∙ met_in_stable graph roots h (length held))

@@ -5,7 +5,7 @@ use Rattle.std.specs.Prelude.{Option, Some, None}
 use Rattle.std.proofs.lemmas.List.{length-map, take-append-drop}
 use Rattle.tree_machine.specs.Cells.{Content}
 use Rattle.tree_machine.specs.Parts.{Part, Parts}
-use Rattle.tree_machine.specs.Flat.{cell_code, flat, graph_code, left_code, number_code, part_codes, part_content}
+use Rattle.tree_machine.specs.Flat.{cell_code, graph_code, left_code, number_code, part_codes, part_content}
 use Rattle.tree_machine.specs.Flat.{parts_code, reference_number}
 use Rattle.tree_machine.specs.Laws.Flat.{each_readable, facts_split, number_read, number_split}
 use Rattle.tree_machine.specs.declared.front.Front.{Front}
@@ -38,11 +38,6 @@ cell_split c d xs ys e =
     let same = map_tells reference_number reference_same c.refs d.refs refs.0 in
     (λ i. record { facts = facts.0 i; refs = same i }, refs.1)
 
--- equally many cells in front of other bytes
-pub flat_split : (cells others : List Content) (xs ys : List ℕ) → length cells ≡ length others
-    → flat cells ++ xs ≡ flat others ++ ys → (cells ≡ others) × (xs ≡ ys)
-flat_split = each_readable cell_code cell_split
-
 -- ---- parts
 
 same_part : (p q : Part) → part_content p ≡ part_content q → p ≡ q
@@ -58,8 +53,9 @@ same_part p q e =
 parts_split : (ps qs : List Part) (xs ys : List ℕ) → length ps ≡ length qs → part_codes ps ++ xs ≡ part_codes qs ++ ys
     → (ps ≡ qs) × (xs ≡ ys)
 parts_split ps qs xs ys l e =
-    let split = flat_split (map part_content ps) (map part_content qs) xs ys (simp length-map l) e in
-    (map_tells part_content same_part ps qs split.0, split.1)
+    let cells =
+    each_readable cell_code cell_split (map part_content ps) (map part_content qs) xs ys (simp length-map l) e in
+    (map_tells part_content same_part ps qs cells.0, cells.1)
 
 -- nodes and records in front of other bytes
 graph_split : (ns rs ms ss : List Part) (xs ys : List ℕ) → graph_code ns rs ++ xs ≡ graph_code ms ss ++ ys

@@ -72,15 +72,6 @@ astray_readable None None xs ys e = (refl, cc)
 astray_readable (Some t) (Some u) xs ys e = (cc, cc)
 astray_readable _ _ xs ys e = absurd (omega (arith, ap (λ l. get_or l 0 0) e))
 
--- comparing bytes returns what comparing their values returns
-pub codes_same : {A : Type 0} (code : A → List ℕ) → IsInjective code → (E : A → A → Bool) → IsExact E
-    → IsEquivalence E → (a b : A) → pointwise nat_eq (code a) (code b) ≡ E a b
-codes_same {A} code readable E exact equivalence a b =
-    same_answer _ _
-    (λ h. subst (λ (c : A). E a c ≡ true) (readable a b (list_exact nat_exact _ _ h)) (equivalence.refl a))
-    (λ h. subst (λ (c : A). pointwise nat_eq (code a) (code c) ≡ true) (exact a b h)
-    ((lists_equiv nat_equivalence).refl (code a)))
-
 module _ {Form : Type 0} (code : Form → List ℕ) (readable : IsInjective code) where
   pub content_readable : IsInjective (content_code code)
   content_readable a b e =
@@ -96,7 +87,12 @@ module _ {Form : Type 0} (code : Form → List ℕ) (readable : IsInjective code
       let form = readable a.form b.form astray.1 in
       λ i. record { form = form i; replies = replies.0 i; notes = notes.0 i; astray = astray.0 i }
 
-  -- forms are compared as their bytes are
+  -- comparing bytes returns what comparing the forms returns
   pub content_same : (E : FormContent Form → FormContent Form → Bool) → IsExact E → IsEquivalence E
       → (a b : FormContent Form) → pointwise nat_eq (content_code code a) (content_code code b) ≡ E a b
-  content_same = codes_same (content_code code) content_readable
+  content_same E exact equivalence a b =
+      same_answer _ _
+      (λ h. subst (λ (c : FormContent Form). E a c ≡ true) (content_readable a b (list_exact nat_exact _ _ h))
+      (equivalence.refl a))
+      (λ h. subst (λ (c : FormContent Form). pointwise nat_eq (content_code code a) (content_code code c) ≡ true)
+      (exact a b h) ((lists_equiv nat_equivalence).refl (content_code code a)))

@@ -125,10 +125,6 @@ test_before n r x l = grind (arith, nat_tests)
 pub test_behind : (n r x : ℕ) → n + r ≤ x → (nat_le n x && nat_lt x (n + r)) ≡ false
 test_behind n r x l = grind (arith, nat_tests)
 
-lowered_distinct : (n : ℕ) (xs : List ℕ) → AllByRecursion (λ x. n ≤ x) xs → IsDistinct nat_eq xs
-    → IsDistinct nat_eq (map (λ x. x - n) xs)
-lowered_distinct n = mapped_distinct (λ x. n ≤ x) (λ x. x - n) (λ x y p q e. omega (arith, e, p, q))
-
 lowered_any : (n : ℕ) (xs : List ℕ) (y : ℕ) → AllByRecursion (λ x. n ≤ x) xs
     → list_any (nat_eq y) (map (λ x. x - n) xs) ≡ list_any (nat_eq (n + y)) xs
 lowered_any n [] y a = refl
@@ -170,7 +166,9 @@ module _ (n : ℕ) (order : List ℕ) where
     records_below = all_from_has _ _ (λ y h. (record_has y h).1)
 
     pub records_distinct : IsDistinct nat_eq order → IsDistinct nat_eq (records_met n r order)
-    records_distinct d = lowered_distinct n _ kept_behind (filter_distinct _ order d)
+    records_distinct d =
+        mapped_distinct (λ x. n ≤ x) (λ x. x - n) (λ x y p q e. omega (arith, e, p, q)) _ kept_behind
+        (filter_distinct _ order d)
 
 -- ---- nodes and records as cells
 

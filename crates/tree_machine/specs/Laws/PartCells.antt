@@ -159,12 +159,6 @@ below_or_behind_one n m P Q one then x y v w (inr p) (inr q) =
 below_or_behind_one n m P Q one then x y v w (inl p) (inr q) = (λ e. omega arith, λ e. omega arith)
 below_or_behind_one n m P Q one then x y v w (inr p) (inl q) = (λ e. omega arith, λ e. omega arith)
 
-pub behind : (n m : ℕ) (P Q : ℕ → ℕ → Type 0) (x y : ℕ) → Q x y → BelowOrBehind n m P Q (n + x) (m + y)
-behind n m P Q x y q =
-    let e : n + x - n ≡ x = omega arith in
-    let f : m + y - m ≡ y = omega arith in
-    inr (omega arith, omega arith, rw (e, f) q)
-
 module _ (P R : ℕ → ℕ → Type 0) (s t : Parts) where
   -- paired records, or what is held at one place
   abbrev pub PairedBehind : ℕ → ℕ → Type 0
@@ -195,7 +189,10 @@ module _ (P R : ℕ → ℕ → Type 0) (s t : Parts) where
 
     pub paired_record : (x y : ℕ) → R x y → Paired (length s.nodes + x) (length t.nodes + y)
     paired_record x y p =
-        let r = h.records_in_range x y p in behind _ _ P PairedBehind x y (inl (r.0, r.1, p))
+        let r = h.records_in_range x y p in
+        let e : length s.nodes + x - length s.nodes ≡ x = omega arith in
+        let f : length t.nodes + y - length t.nodes ≡ y = omega arith in
+        inr (omega arith, omega arith, rw (e, f) (inl (r.0, r.1, p)))
 
     cells_paired : (a b : Part) → ArePartsPaired P R a b
         → AreCellsPaired Paired (part_cell (length s.nodes) a) (part_cell (length t.nodes) b)
