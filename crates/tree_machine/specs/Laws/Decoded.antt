@@ -1,11 +1,10 @@
 -- A state whose own bytes are the named code of another one is alike to that one, and fits the same program.
-use Rattle.std.proofs.Common.{◌≡◌, ℕ, zero, suc, ◌+◌, ◌≤◌, List, [], ◌∷◌, map, length, sym, ◌∙◌, ap, subst, refl}
-use Rattle.std.specs.Prelude.{Option, Some, None, IfSome, All, if◌then◌else◌, is_some, slice_get}
-use Rattle.std.specs.List.{AllByRecursion, AllZip}
+use Rattle.std.proofs.Common.{◌≡◌, ℕ, zero, suc, List, ◌∷◌, map, length, sym, ◌∙◌, ap, refl}
+use Rattle.std.specs.Prelude.{Option, Some, None, is_some, slice_get}
+use Rattle.std.specs.List.{AllZip}
 use Rattle.std.proofs.lemmas.List.{length-map}
 use Rattle.std.specs.Option.{option_map}
-use Rattle.std.proofs.lemmas.List.Elements.{recursion_from_All}
-use Rattle.std.proofs.lemmas.Option.{same_Some}
+use Rattle.std.proofs.lemmas.Option.{get_or_from_slice_get, same_Some, slice_get-map, slice_get_within}
 use Rattle.sched_program.specs.Program.{Program}
 use Rattle.tree_machine.specs.Alike.{AreStatesAlike, FormContent, places_of, replies_of}
 use Rattle.tree_machine.specs.FormCode.{content_code, named_code, state_code}
@@ -35,12 +34,6 @@ twin_at f g h P (x ∷ xs) (y ∷ ys) e d z zero v at =
     let same : x ≡ v = cc in rw (← same) (y, refl, cc, cc, z.0)
 twin_at f g h P (x ∷ xs) (y ∷ ys) e d z (suc t) v at = twin_at f g h P xs ys (cc) (cc) z.1 t v at
 twin_at f g h P _ _ e d z t v at = cc
-
-all_at : {A B : Type 0} (P : B → Type 0) (f : A → B) (xs : List A) → AllByRecursion P (map f xs) → (t : ℕ) (x : A)
-    → slice_get xs t ≡ Some x → P (f x)
-all_at P f [] h t x at = cc
-all_at P f (x ∷ xs) h zero y at = let same : x ≡ y = cc in rw (← same) h.0
-all_at P f (x ∷ xs) h (suc t) y at = all_at P f xs h.1 t y at
 
 -- both options hold a value, or neither does
 pub held_are_some : {A : Type 0} (P : A → A → Type 0) (held twin : Option A) → AreHeldPaired P held twin
@@ -97,18 +90,18 @@ module _ {Machine Memory Place Form : Type 0} (rules : Rules Memory Place)
         thread_at in
         let twin = w.0 in
         let twin_fits = fits.threads t ops twin ops_at w.1 in
-        let same_notes : twin.notes ≡ thread.notes = sym w.3 in
+        let same : thread.replies ≡ twin.replies = w.2 in
+        let alike : thread.notes ≡ twin.notes = w.3 in
         let held : is_some thread.place ≡ is_some twin.place =
         sym (held_are_some (rules.pairs.places decoded.2.0) twin.place thread.place w.4) in
         record {
-          begun = subst (λ ns. length ns ≤ length ops) same_notes twin_fits.begun;
-          notes = subst (λ ns. All (λ note. length note ≡ length program.threads) ns) same_notes twin_fits.notes;
-          replies =
-              ap (λ rs. length rs + (if is_some thread.place then 1 else 0)) w.2
-              ∙ ap (λ b. length twin.replies + (if b then 1 else 0)) held ∙ twin_fits.replies
-              ∙ ap length same_notes;
-          place = all_at (λ place. IfSome place (rules.IsPlaceInRange c.memory))
-              (λ (x : Thread Place). x.place) c.threads
-              (recursion_from_All _ (places_of c.threads) decoded.1) t thread thread_at;
+          begun = rw alike twin_fits.begun;
+          notes = rw alike twin_fits.notes;
+          replies = cc (same, held, alike, twin_fits.replies);
+          place =
+              let is =
+              slice_get-map (λ (x : Thread Place). x.place) c.threads t ∙ ap (option_map (λ x. x.place)) thread_at in
+              rw (get_or_from_slice_get (places_of c.threads) t thread.place thread.place is) at
+                  (decoded.1 t thread.place (simp length-map (slice_get_within c.threads t thread thread_at)));
         };
   }
