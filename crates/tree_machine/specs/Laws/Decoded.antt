@@ -102,6 +102,6 @@ module _ {Machine Memory Place Form : Type 0} (rules : Rules Memory Place)
               let is =
               slice_get-map (λ (x : Thread Place). x.place) c.threads t ∙ ap (option_map (λ x. x.place)) thread_at in
               rw (get_or_from_slice_get (places_of c.threads) t thread.place thread.place is) at
-                  (decoded.1 t thread.place (simp length-map (slice_get_within c.threads t thread thread_at)));
+              (decoded.1 t thread.place (simp length-map (slice_get_within c.threads t thread thread_at)));
         };
   }
