@@ -9,7 +9,6 @@ pub mod CellLists
 pub mod CellOrder
 pub mod CellPlaces
 pub mod CellSteps
-pub mod CellWalks
 pub mod Cells
 pub mod Codes
 pub mod FieldsExact

@@ -1,7 +1,7 @@
 -- The bytes of the machine that does each operation at once determine what they are of.
 use Rattle.std.specs.Prelude.{◌≡◌, ℕ, List, [], ◌∷◌, ◌++◌, Option, Some, None, refl}
 use Rattle.std.specs.List.{flat_map}
-use Rattle.std.proofs.Common.{arith, sym, subst}
+use Rattle.std.proofs.Common.{ap, arith, get_or, subst, sym}
 use Rattle.tree_machine.specs.FormCode.{IsInjective, TellsWholly}
 use Rattle.tree_machine.specs.Atomic.{atomic_form, atomic_rules}
 use Rattle.tree_machine.specs.Rules.{ArePlacesInRange, DecodesForms}
@@ -14,18 +14,12 @@ held_readable : (places others : List (Option AtomicLoc)) (keys twins : List ℕ
     → flat_map held_code places ++ 0 ∷ keys ≡ flat_map held_code others ++ 0 ∷ twins
     → (places ≡ others) × (keys ≡ twins)
 held_readable [] [] keys twins e = (refl, let same : keys ≡ twins = cc in same)
-held_readable [] (None ∷ others) keys twins e = let same : ◌≡◌ {A = ℕ} 0 1 = cc in absurd (omega (arith, same))
-held_readable [] (Some p ∷ others) keys twins e = let same : ◌≡◌ {A = ℕ} 0 2 = cc in absurd (omega (arith, same))
-held_readable (None ∷ places) [] keys twins e = let same : ◌≡◌ {A = ℕ} 1 0 = cc in absurd (omega (arith, same))
-held_readable (Some p ∷ places) [] keys twins e = let same : ◌≡◌ {A = ℕ} 2 0 = cc in absurd (omega (arith, same))
-held_readable (None ∷ places) (Some p ∷ others) keys twins e =
-    let same : ◌≡◌ {A = ℕ} 1 2 = cc in absurd (omega (arith, same))
-held_readable (Some p ∷ places) (None ∷ others) keys twins e =
-    let same : ◌≡◌ {A = ℕ} 2 1 = cc in absurd (omega (arith, same))
+held_readable [] (None ∷ others) keys twins e = absurd (omega (arith, ap (λ l. get_or l 0 0) e))
 held_readable (None ∷ places) (None ∷ others) keys twins e =
     let rest = held_readable places others keys twins (cc) in (cc rest.0, rest.1)
 held_readable (Some Do ∷ places) (Some Do ∷ others) keys twins e =
     let rest = held_readable places others keys twins (cc) in (cc rest.0, rest.1)
+held_readable _ _ keys twins e = absurd (omega (arith, ap (λ l. get_or l 0 0) e))
 
 pub atomic_codes : IsInjective atomic_code
 atomic_codes a b e =
@@ -42,9 +36,7 @@ pub atomic_decodes : {Machine : Type 0} (machine : Machine)
     → DecodesForms atomic_rules atomic_form atomic_code (λ keys held. atomic_code (atomic_form keys held))
 atomic_decodes machine keys others held twins range places many e =
     let same = atomic_tells others keys twins held (sym many) e in (
-      subst atomic_rules.IsInRange (sym same.0) range,
-      subst (λ k. ArePlacesInRange atomic_rules k twins) (sym same.0)
-          (subst (ArePlacesInRange atomic_rules keys) (sym same.1) places),
-      (atomic_forms keys others held twins).0 (let keys_same = sym same.0 in let held_same = sym same.1 in
-          λ i. atomic_form (keys_same i) (held_same i)),
+      tt,
+      subst (ArePlacesInRange atomic_rules others) (sym same.1) places,
+      (atomic_forms keys others held twins).0 (λ i. atomic_form (sym same.0 i) (sym same.1 i)),
     )

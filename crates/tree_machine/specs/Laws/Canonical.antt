@@ -1,12 +1,11 @@
 -- Canonical parts: they can be paired with the parts that they come from, and are equal exactly where parts can be.
-use Rattle.std.proofs.Common.{◌≡◌, ℕ, ◌+◌, ◌<◌, ◌≤◌, List, [], ◌∷◌, ◌++◌, map, length, refl, ◌∙◌, ap, subst}
-use Rattle.std.proofs.Common.{append_assoc, append-nil, arith, get_or, length-append}
+use Rattle.std.proofs.Common.{◌≡◌, ℕ, ◌+◌, ◌<◌, ◌≤◌, List, [], ◌∷◌, ◌++◌, map, length, ◌∙◌, ap, subst}
+use Rattle.std.proofs.Common.{append_assoc, append-nil, arith, length-append}
 use Rattle.std.specs.Prelude.{Option, Some, None, nat_eq}
 use Rattle.std.specs.List.{All, AllByRecursion, IsDistinct}
 use Rattle.std.specs.Option.{option_map}
 use Rattle.std.proofs.lemmas.List.{length-map}
-use Rattle.std.proofs.lemmas.List.Elements.{recursion_from_All, All-from_recursion, All-from_get_or, All-append}
-use Rattle.std.proofs.lemmas.List.Elements.{All-map}
+use Rattle.std.proofs.lemmas.List.Elements.{recursion_from_All, All-from_recursion, All-from_get_or}
 use Rattle.std.proofs.lemmas.List.Folds.{list_any-append}
 use Rattle.std.proofs.lemmas.Option.{unwrap_or-slice_get}
 use Rattle.std.proofs.Math.Bool.{or-true}
@@ -17,12 +16,11 @@ use Rattle.tree_machine.specs.Parts.{Part, Parts, no_part, IsPartsPairing, IsPar
 use Rattle.tree_machine.specs.Parts.{part_cell, parts_graph, parts_held, CanPartsBePaired}
 use Rattle.tree_machine.specs.Canonical.{nodes_met, records_met, front_order, front_nodes, front_records, as_cells}
 use Rattle.tree_machine.specs.Canonical.{order_behind, met_nodes, met_records, canonical_parts}
-use Rattle.tree_machine.specs.Laws.CellLists.{numbers_all, numbers_distinct, apart_above, distinct_join}
-use Rattle.tree_machine.specs.Laws.CellLists.{raised_distinct}
+use Rattle.tree_machine.specs.Laws.CellLists.{AreDistinctIn, distinct_in_join, distinct_in_raised, distinct_in_row}
+use Rattle.tree_machine.specs.Laws.CellLists.{numbers_all, order_front}
 use Rattle.tree_machine.specs.Laws.CellOrder.{Has, HasAll, RefsBelow, Extends, extends_more, has_extends}
 use Rattle.tree_machine.specs.Laws.CellOrder.{met_in_order, met_in_extends, order_closed}
 use Rattle.tree_machine.specs.Laws.CellPlaces.{place_from_has, get_place, has_at}
-use Rattle.tree_machine.specs.Laws.CellWalks.{order_front}
 use Rattle.tree_machine.specs.Laws.PartCells.{all_cells, part_all, length-parts_graph, length-cells, node_at}
 use Rattle.tree_machine.specs.Laws.PartCells.{record_at, held_at, cells_rooted, graph_rooted}
 use Rattle.tree_machine.specs.Laws.Graphs.{length-numbers_from}
@@ -57,35 +55,28 @@ abbrev pub roots_behind : Parts → List ℕ → List ℕ → List ℕ
 roots_behind s nodes records =
     as_cells (length s.nodes) nodes records ++ numbers_from (length (parts_graph s)) (length (parts_held s))
 
--- nodes and records that are the first roots are the first that are met
-module _ (s : Parts) (roots nodes records behind : List ℕ)
-    (is : roots ≡ as_cells (length s.nodes) nodes records ++ behind)
+-- nodes and records that an order begins with are the first among its nodes and its records
+module _ (s : Parts) (order nodes records behind : List ℕ)
+    (is : order ≡ as_cells (length s.nodes) nodes records ++ behind)
     (below : AllByRecursion (λ x. x < length s.nodes) nodes) where
-  roots_first : Extends roots (order_of (all_cells s) roots)
-  roots_first = met_in_extends (all_cells s) roots (length (all_cells s))
-
-  order_is : order_of (all_cells s) roots ≡ as_cells (length s.nodes) nodes records ++ (behind ++ roots_first.rest)
-  order_is = roots_first.is ∙ ap (λ l. l ++ roots_first.rest) is ∙ append_assoc (as_cells _ nodes records) behind _
-
-  first_nodes : Extends nodes (nodes_of s (order_of (all_cells s) roots))
+  first_nodes : Extends nodes (nodes_of s order)
   first_nodes = record {
-    rest = nodes_of s (behind ++ roots_first.rest);
-    is = ap (nodes_of s) order_is ∙ nodes_first _ (length s.records) nodes records _ below;
+    rest = nodes_of s behind;
+    is = ap (nodes_of s) is ∙ nodes_first _ (length s.records) nodes records _ below;
   }
 
-  first_records : AllByRecursion (λ y. y < length s.records) records
-      → Extends records (records_of s (order_of (all_cells s) roots))
+  first_records : AllByRecursion (λ y. y < length s.records) records → Extends records (records_of s order)
   first_records records_below = record {
-    rest = records_of s (behind ++ roots_first.rest);
-    is = ap (records_of s) order_is ∙ records_first _ _ nodes records _ below records_below;
+    rest = records_of s behind;
+    is = ap (records_of s) is ∙ records_first _ _ nodes records _ below records_below;
   }
 
--- numbers below m in front of others
-distinct_below : (m : ℕ) (xs ys : List ℕ) → IsDistinct nat_eq xs → IsDistinct nat_eq ys → All (λ x. x < m) xs
-    → All (λ y. m ≤ y) ys → IsDistinct nat_eq (xs ++ ys)
-distinct_below m xs ys d e h g =
-    distinct_join xs ys d e
-    (recursion_from_All _ xs (λ k c l. apart_above (get_or xs k c) ys (λ i b j. omega (arith, h k c l, g i b j))))
+-- what is met is in range
+met_distinct_in : {n : ℕ} (xs : List ℕ) → IsDistinct nat_eq xs → AllByRecursion (λ x. x < n) xs → AreDistinctIn 0 n xs
+met_distinct_in {n} xs distinct below = record {
+  distinct = distinct;
+  within = λ k d l. (omega arith, All-from_recursion (λ x. x < n) xs below k d l);
+}
 
 module _ (fixed : ℕ) (s : Parts) (h : ArePartsInRange fixed s) where
   -- what a walk meets names only what it meets
@@ -128,23 +119,23 @@ module _ (fixed : ℕ) (s : Parts) (h : ArePartsInRange fixed s) where
   fixed_all : (m : ℕ) → length s.nodes ≤ m → All (λ x. x < m) (numbers_from 0 fixed)
   fixed_all m l = numbers_all (λ x. x < m) 0 fixed (λ x g k. omega (arith, h.fixed_in_range))
 
-  fixed_distinct : IsDistinct nat_eq (numbers_from 0 fixed)
-  fixed_distinct = rw append-nil at (numbers_distinct 0 fixed fixed 0 (omega arith))
-
   pub fixed_cells : IsRooted (parts_graph s ++ parts_held s) (numbers_from 0 fixed)
-  fixed_cells = cells_rooted fixed s h _ (fixed_all _ (omega (arith, length-cells s))) fixed_distinct
+  fixed_cells =
+      cells_rooted fixed s h _ (fixed_all _ (omega (arith, length-cells s))) (distinct_in_row 0 fixed).distinct
 
   -- what is held plays no part in it
   pub front_same : order_of (parts_graph s ++ parts_held s) (numbers_from 0 fixed) ≡ front_order fixed s
   front_same =
       order_front (parts_graph s) (parts_held s) (numbers_from 0 fixed)
-      (graph_rooted fixed s h _ (fixed_all _ (omega (arith, length-parts_graph s))) fixed_distinct)
+      (graph_rooted fixed s h _ (fixed_all _ (omega (arith, length-parts_graph s))) (distinct_in_row 0 fixed).distinct)
 
   pub front_met : AreMet fixed s (front_nodes fixed s) (front_records fixed s)
   front_met =
+      let order = order_of (all_cells s) (numbers_from 0 fixed) in
+      let first = met_in_extends (all_cells s) (numbers_from 0 fixed) (length (all_cells s)) in
       subst (λ o. AreMet fixed s (nodes_of s o) (records_of s o)) front_same
       (order_met (numbers_from 0 fixed) fixed_cells
-      (first_nodes s (numbers_from 0 fixed) (numbers_from 0 fixed) [] [] (simp append-nil)
+      (first_nodes s order (numbers_from 0 fixed) [] first.rest (rw append-nil first.is)
       (recursion_from_All _ _ (fixed_all _ (omega arith)))))
 
   -- ---- behind nodes and records that have what they name
@@ -155,38 +146,33 @@ module _ (fixed : ℕ) (s : Parts) (h : ArePartsInRange fixed s) where
     rooted_behind =
         let n = length s.nodes in
         let m = length (parts_graph s) in
-        let all = length (all_cells s) in
+        let held = length (parts_held s) in
         let long : m ≡ n + length s.records = length-parts_graph s in
-        let more : all ≡ m + length (parts_held s) = length-append (parts_graph s) (parts_held s) in
-        let raised = map (λ y. n + y) records in
-        let held = numbers_from m (length (parts_held s)) in
-        let nodes_all : All (λ x. x < n) nodes = All-from_recursion _ nodes met.nodes_below in
-        let records_all : All (λ y. y < length s.records) records = All-from_recursion _ _ met.records_below in
-        let raised_all : All (λ x. (n ≤ x) × (x < m)) raised =
-        All-map (λ x. (n ≤ x) × (x < m)) _ records (λ k d l. (omega arith, omega (arith, records_all k d l))) in
-        let held_all : All (λ x. (m ≤ x) × (x < all)) held =
-        numbers_all (λ x. (m ≤ x) × (x < all)) m _ (λ x l k. (l, omega arith)) in
-        cells_rooted fixed s h (as_cells n nodes records ++ held)
-        (All-append (λ x. x < all) (as_cells n nodes records) held
-        (All-append (λ x. x < all) nodes raised (λ k d l. omega (arith, nodes_all k d l))
-        (λ k d l. omega (arith, raised_all k d l)))
-        (λ k d l. (held_all k d l).1))
-        (rw append_assoc
-        (distinct_below n nodes (raised ++ held) met.nodes_distinct
-        (distinct_below m raised held (raised_distinct n records met.records_distinct)
-        (numbers_distinct 0 0 m _ (omega arith)) (λ k d l. (raised_all k d l).1) (λ k d l. (held_all k d l).0))
-        nodes_all
-        (All-append (λ y. n ≤ y) raised held (λ k d l. (raised_all k d l).0)
-        (λ k d l. omega (arith, held_all k d l)))))
+        let more : length (all_cells s) ≡ m + held = length-append (parts_graph s) (parts_held s) in
+        let below : AreDistinctIn 0 n nodes = met_distinct_in nodes met.nodes_distinct met.nodes_below in
+        let raised = distinct_in_raised n _ records (met_distinct_in records met.records_distinct met.records_below) in
+        let graph =
+        distinct_in_join 0 n n _ nodes _ (omega arith) (omega arith) (omega arith) below raised in
+        let roots =
+        distinct_in_join 0 _ m _ (as_cells n nodes records) _ (omega arith) (omega arith) (omega arith) graph
+        (distinct_in_row m held) in
+        cells_rooted fixed s h _ (λ k d l. omega (arith, roots.within k d l)) roots.distinct
+
+    all_behind : Extends (roots_behind s nodes records) (order_behind nodes records s)
+    all_behind = met_in_extends (all_cells s) (roots_behind s nodes records) (length (all_cells s))
+
+    begins : order_behind nodes records s
+        ≡ as_cells (length s.nodes) nodes records
+        ++ (numbers_from (length (parts_graph s)) (length (parts_held s)) ++ all_behind.rest)
+    begins = all_behind.is ∙ append_assoc (as_cells (length s.nodes) nodes records) _ _
 
     -- they stay in front
     pub nodes_extended : Extends nodes (nodes_met (length s.nodes) (order_behind nodes records s))
-    nodes_extended = first_nodes s (roots_behind s nodes records) nodes records _ refl met.nodes_below
+    nodes_extended = first_nodes s _ nodes records _ begins met.nodes_below
 
     pub records_extended : Extends records
         (records_met (length s.nodes) (length s.records) (order_behind nodes records s))
-    records_extended =
-        first_records s (roots_behind s nodes records) nodes records _ refl met.nodes_below met.records_below
+    records_extended = first_records s _ nodes records _ begins met.nodes_below met.records_below
 
     behind_met : AreMet fixed s (nodes_of s (order_behind nodes records s))
         (records_of s (order_behind nodes records s))
@@ -196,7 +182,7 @@ module _ (fixed : ℕ) (s : Parts) (h : ArePartsInRange fixed s) where
     held_has : (i : ℕ) → i < length s.held → Has (order_behind nodes records s) (length (parts_graph s) + i)
     held_has i l =
         let m = length (parts_graph s) in
-        has_extends (met_in_extends (all_cells s) (roots_behind s nodes records) (length (all_cells s))) (m + i)
+        has_extends all_behind (m + i)
         (rw (
           list_any-append,
           has_at (numbers_from m (length (parts_held s))) i (m + i)

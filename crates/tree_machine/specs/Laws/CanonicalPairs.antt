@@ -1,7 +1,5 @@
 -- Canonical parts of two states.
-use Rattle.std.proofs.Common.{◌≡◌, ℕ, ◌+◌, ◌-◌, ◌<◌, ◌≤◌, ◌↔◌, true, ◌&&◌, List, length, refl, sym, ◌∙◌, subst}
-use Rattle.std.proofs.Common.{inl, inr, arith, zero-add}
-use Rattle.std.specs.Prelude.{nat_lt, nat_le}
+use Rattle.std.proofs.Common.{◌≡◌, ℕ, ◌+◌, ◌-◌, ◌<◌, ◌↔◌, List, length, refl, inl, inr, arith}
 use Rattle.std.specs.List.{AllZip, zip}
 use Rattle.std.proofs.lemmas.List.{length-map}
 use Rattle.tree_machine.specs.Pairing.{IsAmong}
@@ -12,56 +10,30 @@ use Rattle.tree_machine.specs.Canonical.{parts_order, met_nodes, met_records, ca
 use Rattle.tree_machine.specs.Laws.Cells.{AllZip-weaker, orders_paired}
 use Rattle.tree_machine.specs.Laws.CellLists.{numbers_zip, zip_join}
 use Rattle.tree_machine.specs.Laws.PartCells.{all_cells, length-parts_graph, Paired, held_long, cells_pairing}
-use Rattle.tree_machine.specs.Laws.MetLists.{filter_zip, map_zip, test_node, node_test, test_other}
-use Rattle.tree_machine.specs.Laws.MetLists.{test_record, record_test, test_before, test_behind}
+use Rattle.tree_machine.specs.Laws.PartCells.{paired_node, paired_record}
+use Rattle.tree_machine.specs.Laws.MetLists.{PassAlike, filter_zip, is_node, is_record, map_zip, test_node}
+use Rattle.tree_machine.specs.Laws.MetLists.{test_other, test_record, test_before, test_behind}
 use Rattle.tree_machine.specs.Laws.PartsBy.{by_same, paired_from_same}
 use Rattle.tree_machine.specs.Laws.Canonical.{fixed_cells, front_met, front_same}
 use Rattle.tree_machine.specs.Laws.Canonical.{roots_behind, rooted_behind, walk_held, walk_met}
 
 module _ (P R : ℕ → ℕ → Type 0) (fixed : ℕ) (s t : Parts) (h : ArePartsInRange fixed s) (g : ArePartsInRange fixed t)
     (p : IsPartsPairing P R fixed s t) where
-  node_tests : (x y : ℕ) → Paired P R s t x y → nat_lt x (length s.nodes) ≡ nat_lt y (length t.nodes)
-  node_tests x y (inl q) =
-      let k = p.nodes_in_range x y q in test_node (length s.nodes) x k.0 ∙ sym (test_node (length t.nodes) y k.1)
-  node_tests x y (inr (inl (a, b, q, e, f))) =
-      test_other (length s.nodes) x (omega arith) ∙ sym (test_other (length t.nodes) y (omega arith))
-  node_tests x y (inr (inr (i, l, e, f))) =
-      test_other (length s.nodes) x (omega arith) ∙ sym (test_other (length t.nodes) y (omega arith))
+  -- both are nodes that P pairs, or neither is a node
+  nodes_apart : (x y : ℕ) → Paired P R s t x y
+      → PassAlike (is_node (length s.nodes)) (is_node (length t.nodes)) P x y
+  nodes_apart x y (inl (l, k, q)) = inl (test_node _ x l, test_node _ y k, q)
+  nodes_apart x y (inr (l, k, q)) = inr (test_other _ x l, test_other _ y k)
 
-  record_tests : (x y : ℕ) → Paired P R s t x y
-      → (nat_le (length s.nodes) x && nat_lt x (length s.nodes + length s.records))
-      ≡ (nat_le (length t.nodes) y && nat_lt y (length t.nodes + length t.records))
-  record_tests x y (inl q) =
-      let k = p.nodes_in_range x y q in test_before _ (length s.records) x k.0 ∙ sym (test_before _ _ y k.1)
-  record_tests x y (inr (inl (a, b, q, e, f))) =
-      let k = p.records_in_range a b q in
-      test_record (length s.nodes) (length s.records) x (omega arith) (omega arith)
-      ∙ sym (test_record (length t.nodes) (length t.records) y (omega arith) (omega arith))
-  record_tests x y (inr (inr (i, l, e, f))) =
-      test_behind (length s.nodes) (length s.records) x (omega arith)
-      ∙ sym (test_behind (length t.nodes) (length t.records) y (omega arith))
-
-  nodes_kept : (x y : ℕ) → Paired P R s t x y × (nat_lt x (length s.nodes) ≡ true) → P x y
-  nodes_kept x y (q, less) = go q (node_test (length s.nodes) x less)
-    where
-      go : Paired P R s t x y → x < length s.nodes → P x y
-      go (inl q) l = q
-      go (inr (inl (a, b, q, e, f))) l = absurd (omega arith)
-      go (inr (inr (i, k, e, f))) l = absurd (omega arith)
-
-  records_kept : (x y : ℕ)
-      → Paired P R s t x y × ((nat_le (length s.nodes) x && nat_lt x (length s.nodes + length s.records)) ≡ true)
-      → R (x - length s.nodes) (y - length t.nodes)
-  records_kept x y (q, kept) = go q (record_test (length s.nodes) (length s.records) x kept)
-    where
-      go : Paired P R s t x y → (length s.nodes ≤ x) × (x < length s.nodes + length s.records)
-          → R (x - length s.nodes) (y - length t.nodes)
-      go (inl q) l = let m = p.nodes_in_range x y q in absurd (omega arith)
-      go (inr (inl (a, b, q, e, f))) l =
-          let here : x - length s.nodes ≡ a = omega arith in
-          let there : y - length t.nodes ≡ b = omega arith in
-          rw (here, there) q
-      go (inr (inr (i, k, e, f))) l = absurd (omega arith)
+  -- both are records that R pairs, or neither is a record
+  records_apart : (x y : ℕ) → Paired P R s t x y
+      → PassAlike (is_record (length s.nodes) (length s.records)) (is_record (length t.nodes) (length t.records))
+      (λ x y. R (x - length s.nodes) (y - length t.nodes)) x y
+  records_apart x y (inl (l, k, q)) = inr (test_before _ _ x l, test_before _ _ y k)
+  records_apart x y (inr (l, k, inl (i, j, q))) =
+      inl (test_record _ _ x l (omega arith), test_record _ _ y k (omega arith), q)
+  records_apart x y (inr (l, k, inr (i, j, q))) =
+      inr (test_behind _ _ x (omega arith), test_behind _ _ y (omega arith))
 
   -- orders that are paired have paired nodes and paired records
   split_pairs : (xs ys : List ℕ) → AllZip (Paired P R s t) xs ys
@@ -69,9 +41,9 @@ module _ (P R : ℕ → ℕ → Type 0) (fixed : ℕ) (s t : Parts) (h : ArePart
       × AllZip R (records_met (length s.nodes) (length s.records) xs)
       (records_met (length t.nodes) (length t.records) ys)
   split_pairs xs ys z = (
-    AllZip-weaker _ _ nodes_kept _ _ (filter_zip (Paired P R s t) _ _ node_tests xs ys z),
+    filter_zip (Paired P R s t) P _ _ nodes_apart xs ys z,
     map_zip R (λ x. x - length s.nodes) (λ y. y - length t.nodes) _ _
-        (AllZip-weaker _ _ records_kept _ _ (filter_zip (Paired P R s t) _ _ record_tests xs ys z)),
+        (filter_zip (Paired P R s t) _ _ _ records_apart xs ys z),
   )
 
   -- what comes in front is paired, like by like
@@ -82,7 +54,9 @@ module _ (P R : ℕ → ℕ → Type 0) (fixed : ℕ) (s t : Parts) (h : ArePart
       orders_paired (Paired P R s t) (all_cells s) (all_cells t) (numbers_from 0 fixed) (numbers_from 0 fixed)
       (fixed_cells fixed s h) (fixed_cells fixed t g)
       (cells_pairing P R s t fixed p (numbers_from 0 fixed) (numbers_from 0 fixed)
-      (numbers_zip (Paired P R s t) 0 0 fixed (λ i l. rw zero-add (inl (p.fixed_paired i l))))) in
+      (numbers_zip (Paired P R s t) 0 0 fixed fixed refl (λ i x y l e f.
+      let same : x ≡ y = omega arith in
+      rw same (paired_node P R s t fixed p y y (p.fixed_paired y (omega arith)))))) in
       split_pairs (front_order fixed s) (front_order fixed t) (rw (front_same fixed s h, front_same fixed t g) at z)
 
   roots_paired : AllZip (Paired P R s t) (roots_behind s (front_nodes fixed s) (front_records fixed s))
@@ -93,26 +67,26 @@ module _ (P R : ℕ → ℕ → Type 0) (fixed : ℕ) (s t : Parts) (h : ArePart
       let long : length (parts_held s) ≡ length (parts_held t) = simp length-map (held_long P R s t fixed p) in
       zip_join Q _ _ _ _
       (zip_join Q (front_nodes fixed s) (front_nodes fixed t) _ _
-      (AllZip-weaker P Q (λ x y q. inl q) _ _ front.0)
+      (AllZip-weaker P Q (paired_node P R s t fixed p) _ _ front.0)
       (map_zip Q _ _ _ _
-      (AllZip-weaker R (λ x y. Q (length s.nodes + x) (length t.nodes + y)) (λ x y q. inr (inl (x, y, q, refl, refl)))
+      (AllZip-weaker R (λ x y. Q (length s.nodes + x) (length t.nodes + y)) (paired_record P R s t fixed p)
       _ _ front.1)))
-      (subst (λ k. AllZip Q (numbers_from (length (parts_graph s)) (length (parts_held s)))
-      (numbers_from (length (parts_graph t)) k)) long
-      (numbers_zip Q (length (parts_graph s)) (length (parts_graph t)) (length (parts_held s))
-      (λ i l.
-      inr (inr (i, rw length-map at l, omega (arith, length-parts_graph s), omega (arith, length-parts_graph t))))))
+      (numbers_zip Q (length (parts_graph s)) (length (parts_graph t)) (length (parts_held s)) _ long
+      (λ i x y l e f.
+      let here = length-parts_graph s in
+      let there = length-parts_graph t in
+      let within : i < length s.held = rw length-map at l in
+      inr (omega arith, omega arith, inr (omega arith, omega arith, (omega arith, omega arith)))))
 
   -- and so is all that is met
-  all_paired : AllZip P (met_nodes fixed s) (met_nodes fixed t) × AllZip R (met_records fixed s) (met_records fixed t)
-  all_paired =
+  pub same_from_pairing : canonical_parts fixed s ≡ canonical_parts fixed t
+  same_from_pairing =
+      let z =
       split_pairs (parts_order fixed s) (parts_order fixed t)
       (orders_paired (Paired P R s t) (all_cells s) (all_cells t) _ _
       (rooted_behind fixed s h _ _ (front_met fixed s h)) (rooted_behind fixed t g _ _ (front_met fixed t g))
-      (cells_pairing P R s t fixed p _ _ roots_paired))
-
-  pub same_from_pairing : canonical_parts fixed s ≡ canonical_parts fixed t
-  same_from_pairing = let z = all_paired in by_same P R fixed s t _ _ _ _ p z.0 z.1
+      (cells_pairing P R s t fixed p _ _ roots_paired)) in
+      by_same P R fixed s t _ _ _ _ p z.0 z.1
 
 -- canonical parts are equal exactly if the parts can be paired
 pub canonical_exactly : (fixed : ℕ) (s t : Parts) → ArePartsInRange fixed s → ArePartsInRange fixed t

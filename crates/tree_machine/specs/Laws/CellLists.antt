@@ -1,45 +1,42 @@
--- Lists of cells and of numbers, end to end.
-use Rattle.std.proofs.Common.{◌≡◌, ℕ, zero, suc, ◌+◌, ◌<◌, ◌≤◌, false, List, [], ◌∷◌, ◌++◌, map, length}
-use Rattle.std.proofs.Common.{refl, ◌∙◌, ap, arith, zero-add, add-zero}
-use Rattle.std.specs.Prelude.{nat_eq}
+-- Lists of cells and of numbers, end to end, and walks of cells in front of others.
+use Rattle.std.proofs.Common.{◌≡◌, ℕ, zero, suc, ◌+◌, ◌<◌, ◌≤◌, false, List, [], ◌∷◌, ◌++◌, map, length, ◌∙◌, ap, arith}
+use Rattle.std.proofs.Common.{length-append, refl}
+use Rattle.std.specs.Prelude.{slice_get, Option, Some, None, nat_eq}
 use Rattle.std.specs.List.{AllZip, All, AllByRecursion, IsDistinct}
-use Rattle.std.proofs.lemmas.List.Elements.{All-append, All-weaker, All-from_recursion, recursion_from_All}
-use Rattle.std.proofs.lemmas.Map.Keys.{IsDistinct-cons, IsDistinct-head, IsDistinct-tail}
-use Rattle.tree_machine.specs.Cells.{Content, content_at}
+use Rattle.std.proofs.lemmas.List.Elements.{All-append, All-from_recursion, All-head, All-map, All-tail}
+use Rattle.std.proofs.lemmas.List.Elements.{recursion_from_All}
+use Rattle.std.proofs.lemmas.List.{get_or_append_left, get_or-append-add}
+use Rattle.std.proofs.lemmas.Option.{unwrap_or-slice_get}
+use Rattle.tree_machine.specs.Cells.{Content, IsRooted, content_at, met_all, visited, met_in, order_of}
 use Rattle.tree_machine.specs.Graphs.{numbers_from}
+use Rattle.tree_machine.specs.Laws.CellOrder.{IsOrder, met_in_order, met_in_stable}
+use Rattle.tree_machine.specs.Laws.CellPlaces.{has_at}
 use Rattle.tree_machine.specs.Laws.CellSteps.{same_tests, is_other}
 
 -- ---- lists end to end
 
 pub content_front : (xs ys : List Content) (x : ℕ) → x < length xs → content_at (xs ++ ys) x ≡ content_at xs x
-content_front [] ys x l = absurd (omega arith)
-content_front (c ∷ xs) ys zero l = refl
-content_front (c ∷ xs) ys (suc x) l = content_front xs ys x (omega arith)
+content_front xs ys x l = simp unwrap_or-slice_get (get_or_append_left xs ys _ x l)
 
 pub content_back : (xs ys : List Content) (i : ℕ) → content_at (xs ++ ys) (length xs + i) ≡ content_at ys i
-content_back [] ys i = ap (content_at ys) (zero-add i)
-content_back (c ∷ xs) ys i =
-    let e : suc (length xs) + i ≡ suc (length xs + i) = omega arith in
-    ap (content_at ((c ∷ xs) ++ ys)) e ∙ content_back xs ys i
+content_back xs ys i = simp unwrap_or-slice_get (get_or-append-add xs ys i _)
 
 pub zip_join : {A B : Type 0} (P : A → B → Type 0) (xs : List A) (ys : List B) (us : List A) (vs : List B)
     → AllZip P xs ys
     → AllZip P us vs → AllZip P (xs ++ us) (ys ++ vs)
 zip_join P [] [] us vs z w = w
-zip_join P [] (y ∷ ys) us vs z w = absurd z
-zip_join P (x ∷ xs) [] us vs z w = absurd z
 zip_join P (x ∷ xs) (y ∷ ys) us vs z w = (z.0, zip_join P xs ys us vs z.1 w)
+zip_join P _ _ us vs z w = absurd z
 
-pub numbers_zip : (P : ℕ → ℕ → Type 0) (a b n : ℕ) → ((i : ℕ) → i < n → P (a + i) (b + i))
-    → AllZip P (numbers_from a n) (numbers_from b n)
-numbers_zip P a b zero h = tt
-numbers_zip P a b (suc n) h = (
-  rw (add-zero a, add-zero b) at (h 0 (omega arith)),
-  numbers_zip P (suc a) (suc b) n (λ i l.
-      let e : a + suc i ≡ suc a + i = omega arith in
-      let f : b + suc i ≡ suc b + i = omega arith in
-      rw (e, f) at (h (suc i) (omega arith))),
+pub numbers_zip : (P : ℕ → ℕ → Type 0) (a b n m : ℕ) → n ≡ m
+    → ((i x y : ℕ) → i < n → x ≡ a + i → y ≡ b + i → P x y) → AllZip P (numbers_from a n) (numbers_from b m)
+numbers_zip P a b zero zero many h = tt
+numbers_zip P a b (suc n) (suc m) many h = (
+  h 0 a b (omega arith) (omega arith) (omega arith),
+  numbers_zip P (suc a) (suc b) n m (omega arith)
+      (λ i x y l e f. h (suc i) x y (omega arith) (omega arith) (omega arith)),
 )
+numbers_zip P a b _ _ many h = absurd (omega arith)
 
 pub numbers_all : (P : ℕ → Type 0) (a n : ℕ) → ((x : ℕ) → a ≤ x → x < a + n → P x) → All P (numbers_from a n)
 numbers_all P a n h = All-from_recursion P (numbers_from a n) (go a n h)
@@ -48,60 +45,93 @@ numbers_all P a n h = All-from_recursion P (numbers_from a n) (go a n h)
     go a zero h = tt
     go a (suc n) h = (h a (omega arith) (omega arith), go (suc a) n (λ x l k. h x (omega arith) (omega arith)))
 
-pub apart_above : (a : ℕ) (xs : List ℕ) → All (λ x. a < x) xs → AllByRecursion (λ y. nat_eq a y ≡ false) xs
-apart_above a xs h =
-    recursion_from_All _ xs
-    (All-weaker (λ x. a < x) (λ y. nat_eq a y ≡ false) (λ x l. is_other a x (λ e. omega (arith, e))) xs h)
-
 pub distinct_none : IsDistinct nat_eq []
 unfolding IsDistinct
 distinct_none = tt
 
-pub numbers_distinct : (a f n t : ℕ) → a + f ≤ n → IsDistinct nat_eq (numbers_from a f ++ numbers_from n t)
-numbers_distinct a zero n t l = go n t
-  where
-    go : (n t : ℕ) → IsDistinct nat_eq (numbers_from n t)
-    go n zero = distinct_none
-    go n (suc t) =
-        IsDistinct-cons nat_eq n (numbers_from (suc n) t)
-        (apart_above n (numbers_from (suc n) t) (numbers_all (λ x. n < x) (suc n) t (λ x l k. l))) (go (suc n) t)
-numbers_distinct a (suc f) n t l =
-    IsDistinct-cons nat_eq a (numbers_from (suc a) f ++ numbers_from n t)
-    (apart_above a (numbers_from (suc a) f ++ numbers_from n t)
-    (All-append (λ x. a < x) (numbers_from (suc a) f) (numbers_from n t)
-    (numbers_all (λ x. a < x) (suc a) f (λ x l k. l)) (numbers_all (λ x. a < x) n t (λ x g k. omega arith))))
-    (numbers_distinct (suc a) f n t (omega arith))
+-- distinct numbers from low on, below high
+pub record AreDistinctIn (low high : ℕ) (xs : List ℕ) : Type 0 where
+  pub distinct : IsDistinct nat_eq xs
+  pub within : All (λ x. (low ≤ x) × (x < high)) xs
 
--- distinct lists with no common element
-pub distinct_join : (xs ys : List ℕ) → IsDistinct nat_eq xs → IsDistinct nat_eq ys
-    → AllByRecursion (λ x. AllByRecursion (λ y. nat_eq x y ≡ false) ys) xs → IsDistinct nat_eq (xs ++ ys)
-distinct_join [] ys d e h = e
-distinct_join (x ∷ xs) ys d e h =
-    let apart = All-from_recursion (λ y. nat_eq x y ≡ false) xs (IsDistinct-head nat_eq x xs d) in
-    IsDistinct-cons nat_eq x (xs ++ ys)
-    (recursion_from_All _ (xs ++ ys) (All-append (λ y. nat_eq x y ≡ false) xs ys apart (All-from_recursion _ ys h.0)))
-    (distinct_join xs ys (IsDistinct-tail nat_eq x xs d) e h.1)
+-- two such lists end to end
+pub distinct_in_join : (a b c d : ℕ) (xs ys : List ℕ) → a ≤ c → b ≤ c → b ≤ d → AreDistinctIn a b xs
+    → AreDistinctIn c d ys → AreDistinctIn a d (xs ++ ys)
+unfolding IsDistinct
+distinct_in_join a b c d xs ys low apart high h g = record {
+  distinct = go xs h.distinct (λ k e l. (h.within k e l).1);
+  within =
+      All-append (λ x. (a ≤ x) × (x < d)) xs ys
+      (λ k e l. let r = h.within k e l in (r.0, omega arith)) (λ k e l. let r = g.within k e l in (omega arith, r.1));
+}
+  where
+    go : (xs : List ℕ) → IsDistinct nat_eq xs → All (λ x. x < b) xs → IsDistinct nat_eq (xs ++ ys)
+    go [] distinct below = g.distinct
+    go (x ∷ xs) distinct below =
+        let first = All-head (λ x. x < b) x xs below in (
+          recursion_from_All _ (xs ++ ys)
+              (All-append (λ y. nat_eq x y ≡ false) xs ys (All-from_recursion _ xs distinct.0)
+              (λ k e l. is_other x _ (λ same. omega (arith, same, g.within k e l)))),
+          go xs distinct.1 (All-tail (λ x. x < b) x xs below),
+        )
+
+pub distinct_in_row : (a n : ℕ) → AreDistinctIn a (a + n) (numbers_from a n)
+unfolding IsDistinct
+distinct_in_row a n =
+    record { distinct = go a n; within = numbers_all (λ x. (a ≤ x) × (x < a + n)) a n (λ x l k. (l, k)) }
+  where
+    go : (a n : ℕ) → IsDistinct nat_eq (numbers_from a n)
+    go a zero = tt
+    go a (suc n) = (
+      recursion_from_All _ _
+          (numbers_all (λ x. nat_eq a x ≡ false) (suc a) n (λ x l k. is_other a x (λ e. omega arith))),
+      go (suc a) n,
+    )
+
+pub numbers_distinct : (a f n t : ℕ) → a + f ≤ n → IsDistinct nat_eq (numbers_from a f ++ numbers_from n t)
+numbers_distinct a f n t l =
+    let both = distinct_in_join a _ n _ _ _ (omega arith) l (omega arith) (distinct_in_row a f) (distinct_in_row n t) in
+    both.distinct
 
 -- distinct numbers stay distinct under a map that is one to one among them
 pub mapped_distinct : (P : ℕ → Type 0) (f : ℕ → ℕ) → ((x y : ℕ) → P x → P y → f x ≡ f y → x ≡ y) → (xs : List ℕ)
     → AllByRecursion P xs → IsDistinct nat_eq xs → IsDistinct nat_eq (map f xs)
-mapped_distinct P f one [] a d = distinct_none
-mapped_distinct P f one (x ∷ xs) a d =
-    IsDistinct-cons nat_eq (f x) (map f xs) (apart xs a.1 (IsDistinct-head nat_eq x xs d))
-    (mapped_distinct P f one xs a.1 (IsDistinct-tail nat_eq x xs d))
-  where
-    apart : (ys : List ℕ) → AllByRecursion P ys → AllByRecursion (λ y. nat_eq x y ≡ false) ys
-        → AllByRecursion (λ y. nat_eq (f x) y ≡ false) (map f ys)
-    apart [] b h = tt
-    apart (y ∷ ys) b h = (same_tests (f x) x (f y) y (one x y a.0 b.0, λ e. ap f e) ∙ h.0, apart ys b.1 h.1)
+unfolding IsDistinct
+mapped_distinct P f one [] a d = tt
+mapped_distinct P f one (x ∷ xs) a d = (
+  recursion_from_All _ _
+      (All-map (λ y. nat_eq (f x) y ≡ false) f xs (λ k c l.
+      same_tests (f x) x _ _ (one x _ a.0 (All-from_recursion P xs a.1 k c l), λ e. ap f e)
+      ∙ All-from_recursion (λ y. nat_eq x y ≡ false) xs d.0 k c l)),
+  mapped_distinct P f one xs a.1 d.1,
+)
 
--- numbers that are all raised stay distinct
-pub raised_distinct : (n : ℕ) (xs : List ℕ) → IsDistinct nat_eq xs → IsDistinct nat_eq (map (λ x. n + x) xs)
-raised_distinct n xs d =
-    mapped_distinct (λ _. Unit {0}) (λ x. n + x) (λ x y _ _ e. omega (arith, e)) xs
-    (recursion_from_All (λ _. Unit {0}) xs (λ _ _ _. tt)) d
+-- and one whose numbers are all raised
+pub distinct_in_raised : (n r : ℕ) (xs : List ℕ) → AreDistinctIn 0 r xs → AreDistinctIn n (n + r) (map (λ x. n + x) xs)
+distinct_in_raised n r xs h = record {
+  distinct =
+      mapped_distinct (λ x. (0 ≤ x) × (x < r)) (λ x. n + x) (λ x y _ _ e. omega (arith, e)) xs
+      (recursion_from_All _ xs h.within) h.distinct;
+  within =
+      All-map (λ x. (n ≤ x) × (x < n + r)) _ xs (λ k d l. let p = h.within k d l in (omega arith, omega arith));
+}
 
-pub rec_weaker : {A : Type 0} (P Q : A → Type 0) → ((x : A) → P x → Q x) → (xs : List A) → AllByRecursion P xs
-    → AllByRecursion Q xs
-rec_weaker P Q f [] h = tt
-rec_weaker P Q f (x ∷ xs) h = (f x h.0, rec_weaker P Q f xs h.1)
+-- ---- a walk goes the same way where other cells come behind
+
+module _ (graph held : List Content) (roots : List ℕ) (h : IsRooted graph roots) where
+  visited_front : (order : List ℕ) (n : ℕ) → IsOrder (length graph) order → (r : Option ℕ) → slice_get order n ≡ r
+      → visited (graph ++ held) order r ≡ visited graph order r
+  visited_front order n o None e = refl
+  visited_front order n o (Some x) e =
+      ap (λ c. met_all order c.refs) (content_front graph held x (o.below x (has_at order n x e)))
+
+  met_in_front : (n : ℕ) → met_in (graph ++ held) roots n ≡ met_in graph roots n
+  met_in_front zero = refl
+  met_in_front (suc n) =
+      ap (λ o. visited (graph ++ held) o (slice_get o n)) (met_in_front n)
+      ∙ visited_front (met_in graph roots n) n (met_in_order graph roots h n) _ refl
+
+  pub order_front : order_of (graph ++ held) roots ≡ order_of graph roots
+  order_front =
+      ap (met_in (graph ++ held) roots) (length-append graph held)
+      ∙ (met_in_front (length graph + length held) ∙ met_in_stable graph roots h (length held))

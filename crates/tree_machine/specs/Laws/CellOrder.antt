@@ -1,17 +1,16 @@
 -- The cells that a walk meets, in their order: distinct, in range, and closed.
-use Rattle.std.proofs.Common.{◌≡◌, ℕ, zero, suc, ◌+◌, ◌<◌, ◌≤◌, ◌⊎◌, Bool, true, false, cond, ◌||◌, List, [], ◌∷◌}
-use Rattle.std.proofs.Common.{◌++◌, length, refl, sym, ◌∙◌, ap, subst, inl, inr, arith, append_assoc, add-suc}
-use Rattle.std.proofs.Common.{add-zero, get_or, append-nil}
+use Rattle.std.proofs.Common.{◌≡◌, ℕ, zero, suc, ◌+◌, ◌<◌, ◌≤◌, true, List, [], ◌∷◌, ◌++◌, length, refl, sym, ap, subst}
+use Rattle.std.proofs.Common.{inl, inr, arith, append_assoc, add-suc, add-zero, get_or, append-nil}
 use Rattle.std.specs.Prelude.{slice_get, Option, Some, None, nat_eq, ⊤, IfSome}
 use Rattle.std.specs.Cmp.{IsEquivalence}
 use Rattle.std.specs.List.{list_any, All, AllByRecursion, IsDistinct}
-use Rattle.std.proofs.lemmas.Bool.{eq-eqb, eqb-true, or_cases}
-use Rattle.std.proofs.lemmas.List.Elements.{recursion_from_All, All-nil}
+use Rattle.std.proofs.lemmas.Bool.{cases_eq, cases_lt, cond_both, eq-eqb, eqb-true, or_cases}
+use Rattle.std.proofs.lemmas.List.Elements.{recursion_from_All, All-get_or}
 use Rattle.std.proofs.lemmas.List.Folds.{list_any-append}
 use Rattle.std.proofs.lemmas.Map.Keys.{IsDistinct-push}
 use Rattle.std.proofs.lemmas.Map.Steps.{length-le_from_distinct_below}
-use Rattle.std.proofs.lemmas.Option.{slice_get_past, slice_get_within, slice_get-get_or}
-use Rattle.std.proofs.Math.Bool.{or-true}
+use Rattle.std.proofs.lemmas.Option.{slice_get_past, slice_get_within, slice_get-get_or, unwrap_or-slice_get}
+use Rattle.std.proofs.Math.Bool.{or-false, or-true}
 use Rattle.tree_machine.specs.Cells.{Content, met, met_all, visited, met_in, content_at, order_of, IsRooted}
 use Rattle.tree_machine.specs.Laws.CellSteps.{same_tests}
 
@@ -64,20 +63,15 @@ get_extends {xs} e k x h = rw e.is (get_append xs e.rest k x h)
 
 -- ---- one more cell
 
-met_extends_by : (order : List ℕ) (x : ℕ) (t : Bool) → Extends order (cond t order (order ++ x ∷ []))
-met_extends_by order x true = extends_itself order
-met_extends_by order x false = record { rest = x ∷ []; is = refl }
-
 pub met_extends : (order : List ℕ) (x : ℕ) → Extends order (met order x)
-met_extends order x = met_extends_by order x (list_any (nat_eq x) order)
-
-met_has_by : (order : List ℕ) (x : ℕ) (t : Bool) → list_any (nat_eq x) order ≡ t
-    → Has (cond t order (order ++ x ∷ [])) x
-met_has_by order x true h = h
-met_has_by order x false h = rw (list_any-append, has_itself x) (or-true _)
+met_extends order x =
+    cond_both (list_any (nat_eq x) order) order _ (Extends order)
+    (λ _. extends_itself order) (λ _. record { rest = x ∷ []; is = refl })
 
 pub met_has : (order : List ℕ) (x : ℕ) → Has (met order x) x
-met_has order x = met_has_by order x (list_any (nat_eq x) order) refl
+met_has order x =
+    cond_both (list_any (nat_eq x) order) order (order ++ x ∷ []) (λ o. Has o x)
+    (λ h. h) (λ h. rw (list_any-append, has_itself x) (or-true _))
 
 pub met_all_extends : (refs : List (Option ℕ)) (order : List ℕ) → Extends order (met_all order refs)
 met_all_extends [] order = extends_itself order
@@ -96,24 +90,15 @@ pub record IsOrder (n : ℕ) (order : List ℕ) : Type 0 where
   pub distinct : IsDistinct nat_eq order
   pub below : (x : ℕ) → Has order x → x < n
 
-has_push_cases : (order : List ℕ) (x y : ℕ) → Has (order ++ x ∷ []) y → Has order y ⊎ (y ≡ x)
-has_push_cases order x y h =
-    elim (or_cases (list_any (nat_eq y) order) (nat_eq y x || false)
-    (sym (list_any-append (nat_eq y) order (x ∷ [])) ∙ h)) [
-      | inl e ↦ inl e
-      | inr e ↦ elim (or_cases (nat_eq y x) false e) [ inl d ↦ inr (eqb-true y x d) | inr d ↦ cc ]
-    ]
-
-met_order_by : (n : ℕ) (order : List ℕ) (x : ℕ) → x < n → IsOrder n order → (t : Bool) → list_any (nat_eq x) order ≡ t
-    → IsOrder n (cond t order (order ++ x ∷ []))
-met_order_by n order x l h true e = h
-met_order_by n order x l h false e = record {
-  distinct = IsDistinct-push nat_equivalence order x h.distinct e;
-  below = λ y g. elim (has_push_cases order x y g) [ inl m ↦ h.below y m | inr m ↦ subst (λ z. z < n) (sym m) l ];
-}
-
 pub met_order : (n : ℕ) (order : List ℕ) (x : ℕ) → x < n → IsOrder n order → IsOrder n (met order x)
-met_order n order x l h = met_order_by n order x l h (list_any (nat_eq x) order) refl
+met_order n order x l h =
+    cond_both (list_any (nat_eq x) order) order _ (IsOrder n) (λ _. h) (λ e. record {
+      distinct = IsDistinct-push nat_equivalence order x h.distinct e;
+      below = λ y g. elim (or_cases (list_any (nat_eq y) order) (nat_eq y x) (rw (list_any-append, or-false) at g)) [
+        | inl m ↦ h.below y m
+        | inr m ↦ rw (eqb-true y x m) l
+      ];
+    })
 
 -- each ref is none or below n
 abbrev pub RefsBelow : ℕ → List (Option ℕ) → Type 0
@@ -139,24 +124,22 @@ all_has P (y ∷ xs) h x g =
       | inr e ↦ all_has P xs h.1 x e
     ]
 
-pub content_all : (P : Content → Type 0) → P (record { facts = []; refs = [] }) → (cells : List Content)
-    → AllByRecursion P cells → (x : ℕ) → P (content_at cells x)
-content_all P none [] h x = none
-content_all P none (c ∷ cells) h zero = h.0
-content_all P none (c ∷ cells) h (suc x) = content_all P none cells h.1 x
+-- what holds of each one that is there holds of each element
+pub all_from_has : (P : ℕ → Type 0) (xs : List ℕ) → ((x : ℕ) → Has xs x → P x) → AllByRecursion P xs
+all_from_has P [] h = tt
+all_from_has P (x ∷ xs) h =
+    (h x (rw (has_itself x) refl), all_from_has P xs (λ y g. h y (rw g (or-true (nat_eq y x)))))
 
 module _ (cells : List Content) (roots : List ℕ) (h : IsRooted cells roots) where
   refs_below : (x : ℕ) → RefsBelow (length cells) (content_at cells x).refs
   refs_below x =
-      recursion_from_All _ _
-      (content_all (λ c. All (λ r. IfSome r (λ x. x < length cells)) c.refs) (All-nil _) cells
-      (recursion_from_All _ cells h.refs_in_range) x)
-
-  roots_order : IsOrder (length cells) roots
-  roots_order = record {
-    distinct = h.roots_distinct;
-    below = all_has (λ x. x < length cells) roots (recursion_from_All _ roots h.roots_in_range);
-  }
+      elim (cases_lt x (length cells)) [
+        | inl l ↦
+            recursion_from_All _ _
+            (rw unwrap_or-slice_get (All-get_or (λ c. All (λ r. IfSome r (λ x. x < length cells)) c.refs) cells x _ l
+            h.refs_in_range))
+        | inr l ↦ rw (slice_get_past cells x l) tt
+      ]
 
   visited_order : (order : List ℕ) (r : Option ℕ) → IsOrder (length cells) order
       → IsOrder (length cells) (visited cells order r)
@@ -164,7 +147,10 @@ module _ (cells : List Content) (roots : List ℕ) (h : IsRooted cells roots) wh
   visited_order order (Some x) g = met_all_order (length cells) (content_at cells x).refs order (refs_below x) g
 
   pub met_in_order : (n : ℕ) → IsOrder (length cells) (met_in cells roots n)
-  met_in_order zero = roots_order
+  met_in_order zero = record {
+    distinct = h.roots_distinct;
+    below = all_has (λ x. x < length cells) roots (recursion_from_All _ roots h.roots_in_range);
+  }
   met_in_order (suc n) = visited_order (met_in cells roots n) _ (met_in_order n)
 
   -- after a visit for each cell there is nothing more to visit
@@ -190,26 +176,18 @@ met_in_extends cells roots (suc n) =
 abbrev IsClosedBelow : List Content → ℕ → List ℕ → Type 0
 IsClosedBelow cells n order = (k x : ℕ) → k < n → slice_get order k ≡ Some x → HasAll order (content_at cells x).refs
 
--- an element before the place n of a longer list, where the shorter one has a place n
-get_before : {xs ys : List ℕ} → Extends xs ys → (n z : ℕ) → slice_get xs n ≡ Some z → (k x : ℕ) → k ≤ n
-    → slice_get ys k ≡ Some x → slice_get xs k ≡ Some x
-get_before {xs} e n z at k x le h =
-    let far : n < length xs = slice_get_within xs n z at in
-    let there = slice_get-get_or xs k x (omega arith) in
-    there ∙ (sym (get_extends e k (get_or xs k x) there) ∙ h)
-
-below_or_at : (k n : ℕ) → k < suc n → (k < n) ⊎ (k ≡ n)
-below_or_at k n l = grind arith
-
 visited_closed : (cells : List Content) (n : ℕ) (order : List ℕ) → IsClosedBelow cells n order → (r : Option ℕ)
     → slice_get order n ≡ r → IsClosedBelow cells (suc n) (visited cells order r)
-visited_closed cells n order h None at k x l g = elim (below_or_at k n l) [ inl lt ↦ h k x lt g | inr e ↦ cc ]
+visited_closed cells n order h None at k x l g =
+    elim (cases_eq k n) [ inl e ↦ cc | inr other ↦ h k x (omega arith) g ]
 visited_closed cells n order h (Some z) at k x l g =
     let more = visited_extends cells order (Some z) in
-    let here = get_before more n z at k x (omega arith) g in
-    elim (below_or_at k n l) [
-      | inl lt ↦ has_all_extends more (content_at cells x).refs (h k x lt here)
-      | inr e ↦ let same : z ≡ x = cc in rw (← same) (met_all_has (content_at cells z).refs order)
+    let far = slice_get_within order n z at in
+    let there = slice_get-get_or order k x (omega arith) in
+    let here : slice_get order k ≡ Some x = cc (there, get_extends more k (get_or order k x) there, g) in
+    elim (cases_eq k n) [
+      | inl e ↦ let same : z ≡ x = cc in rw (← same) (met_all_has (content_at cells z).refs order)
+      | inr other ↦ has_all_extends more (content_at cells x).refs (h k x (omega arith) here)
     ]
 
 pub met_in_closed : (cells : List Content) (roots : List ℕ) (n : ℕ) → IsClosedBelow cells n (met_in cells roots n)
@@ -220,7 +198,6 @@ met_in_closed cells roots (suc n) = visited_closed cells n (met_in cells roots n
 pub order_closed : (cells : List Content) (roots : List ℕ) → IsRooted cells roots → (k x : ℕ)
     → slice_get (order_of cells roots) k ≡ Some x → HasAll (order_of cells roots) (content_at cells x).refs
 order_closed cells roots h k x at =
-    let within : k < length (order_of cells roots) = slice_get_within (order_of cells roots) k x at in
-    let short : length (order_of cells roots) ≤ length cells =
-    length-order (length cells) (order_of cells roots) (met_in_order cells roots h (length cells)) in
-    met_in_closed cells roots (length cells) k x (omega arith) at
+    let order = met_in_order cells roots h (length cells) in
+    met_in_closed cells roots (length cells) k x
+    (omega (arith, slice_get_within _ k x at, length-order (length cells) _ order)) at

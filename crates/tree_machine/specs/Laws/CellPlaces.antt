@@ -1,6 +1,5 @@
 -- The places of cells in an order.
-use Rattle.std.proofs.Common.{◌≡◌, ℕ, zero, suc, ◌⊎◌, true, false, cond, List, [], ◌∷◌, map, refl, sym, ◌∙◌, ap}
-use Rattle.std.proofs.Common.{subst, inl, inr}
+use Rattle.std.proofs.Common.{◌≡◌, ℕ, zero, suc, false, cond, List, [], ◌∷◌, map, refl, sym, ◌∙◌, ap, subst, inl, inr}
 use Rattle.std.specs.Prelude.{slice_get, Option, Some, None, nat_eq}
 use Rattle.std.specs.List.{AllZip, zip, IsDistinct}
 use Rattle.std.specs.Option.{option_map, option_and_then}
@@ -17,23 +16,20 @@ use Rattle.tree_machine.specs.Laws.CellOrder.{Has, all_has, has_itself, nat_equi
 pub place_paired : (P : ℕ → ℕ → Type 0) → IsOneToOne P → (xs ys : List ℕ) (a b : ℕ) → AllZip P xs ys → P a b
     → place_in xs a ≡ place_in ys b
 place_paired P one [] [] a b h p = refl
-place_paired P one [] (y ∷ ys) a b h p = absurd h
-place_paired P one (x ∷ xs) [] a b h p = absurd h
 place_paired P one (x ∷ xs) (y ∷ ys) a b h p =
     ap (λ t. cond t (Some 0) (option_map suc (place_in xs a))) (same_tests a b x y (one a b x y p h.0))
     ∙ ap (λ r. cond (nat_eq b y) (Some 0) (option_map suc r)) (place_paired P one xs ys a b h.1 p)
+place_paired P one _ _ a b h p = absurd h
 
 pub refs_renamed : (P : ℕ → ℕ → Type 0) → IsOneToOne P → (xs ys : List ℕ) → AllZip P xs ys
     → (refs sefs : List (Option ℕ)) → AllZip (IsPairedOrNone P) refs sefs
     → map (option_and_then (place_in xs)) refs ≡ map (option_and_then (place_in ys)) sefs
 refs_renamed P one xs ys z [] [] h = refl
-refs_renamed P one xs ys z [] (s ∷ sefs) h = absurd h
-refs_renamed P one xs ys z (r ∷ refs) [] h = absurd h
 refs_renamed P one xs ys z (None ∷ refs) (None ∷ sefs) h = ap (λ l. None ∷ l) (refs_renamed P one xs ys z refs sefs h.1)
-refs_renamed P one xs ys z (None ∷ refs) (Some y ∷ sefs) h = absurd h.0
-refs_renamed P one xs ys z (Some x ∷ refs) (None ∷ sefs) h = absurd h.0
 refs_renamed P one xs ys z (Some x ∷ refs) (Some y ∷ sefs) h =
     cc (place_paired P one xs ys x y z h.0, refs_renamed P one xs ys z refs sefs h.1)
+refs_renamed P one xs ys z (_ ∷ refs) (_ ∷ sefs) h = absurd h.0
+refs_renamed P one xs ys z _ _ h = absurd h
 
 -- what is in a list has a place there, and is at it
 pub place_from_has : (xs : List ℕ) (x : ℕ) → Has xs x → (k : ℕ) × (place_in xs x ≡ Some k)
@@ -44,20 +40,17 @@ place_from_has (y ∷ xs) x h =
       | inr e ↦ let r = place_from_has xs x (rw e.0 at h) in (suc r.0, rw (e.0, r.1) refl)
     ]
 
+place_behind : (r : Option ℕ) (k : ℕ) → option_map suc r ≡ Some k → (j : ℕ) × (r ≡ Some j) × (suc j ≡ k)
+place_behind None k h = cc
+place_behind (Some j) k h = (j, refl, cc)
+
 pub get_place : (xs : List ℕ) (x k : ℕ) → place_in xs x ≡ Some k → slice_get xs k ≡ Some x
 get_place [] x k h = cc
-get_place (y ∷ xs) x k h = go (λ j. get_place xs x j) (eqb_tells x y) (place_in xs x) refl k h
-  where
-    go : ((j : ℕ) → place_in xs x ≡ Some j → slice_get xs j ≡ Some x) → ((nat_eq x y ≡ true) × (x ≡ y))
-        ⊎ ((nat_eq x y ≡ false) × (x ≡ y → ⊥)) → (r : Option ℕ) → place_in xs x ≡ r → (k : ℕ)
-        → place_in (y ∷ xs) x ≡ Some k → slice_get (y ∷ xs) k ≡ Some x
-    go rest (inl e) r at k g =
-        let zeroth : 0 ≡ k = cc (rw e.0 at g) in
-        rw (← zeroth) (ap Some (sym e.1))
-    go rest (inr e) None at k g = cc (rw (e.0, at) at g)
-    go rest (inr e) (Some j) at k g =
-        let after : suc j ≡ k = cc (rw (e.0, at) at g) in
-        rw (← after) (rest j at)
+get_place (y ∷ xs) x k h =
+    elim (eqb_tells x y) [
+      | inl e ↦ let zeroth : 0 ≡ k = cc (rw e.0 at h) in rw (← zeroth) (ap Some (sym e.1))
+      | inr e ↦ let r = place_behind (place_in xs x) k (rw e.0 at h) in rw (← r.2) (get_place xs x r.0 r.1)
+    ]
 
 pub has_at : (xs : List ℕ) (k x : ℕ) → slice_get xs k ≡ Some x → Has xs x
 has_at [] k x h = cc

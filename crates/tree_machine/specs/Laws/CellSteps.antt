@@ -1,6 +1,6 @@
 -- Two walks over paired cells go in lock step.
-use Rattle.std.proofs.Common.{◌≡◌, ℕ, zero, suc, ◌↔◌, Bool, true, false, cond, ◌||◌, List, [], ◌∷◌, ◌++◌, refl}
-use Rattle.std.proofs.Common.{sym, ◌∙◌, ap, subst, inl, inr}
+use Rattle.std.proofs.Common.{◌≡◌, ℕ, zero, suc, ◌↔◌, true, false, cond, ◌||◌, List, [], ◌∷◌, ◌++◌, refl}
+use Rattle.std.proofs.Common.{sym, ◌∙◌, ap, inl, inr}
 use Rattle.std.specs.Prelude.{slice_get, Option, Some, None, nat_eq}
 use Rattle.std.specs.List.{AllZip, list_any}
 use Rattle.std.proofs.lemmas.Bool.{eq-eqb}
@@ -25,51 +25,44 @@ same_tests x y a b h =
 pub has_paired : (P : ℕ → ℕ → Type 0) → IsOneToOne P → (xs ys : List ℕ) (a b : ℕ) → AllZip P xs ys → P a b
     → list_any (nat_eq a) xs ≡ list_any (nat_eq b) ys
 has_paired P one [] [] a b h p = refl
-has_paired P one [] (y ∷ ys) a b h p = absurd h
-has_paired P one (x ∷ xs) [] a b h p = absurd h
 has_paired P one (x ∷ xs) (y ∷ ys) a b h p =
     ap (λ t. t || list_any (nat_eq a) xs) (same_tests a b x y (one a b x y p h.0))
     ∙ ap (λ t. nat_eq b y || t) (has_paired P one xs ys a b h.1 p)
-
-push_paired : (P : ℕ → ℕ → Type 0) (xs ys : List ℕ) (a b : ℕ) → AllZip P xs ys → P a b → (t : Bool)
-    → AllZip P (cond t xs (xs ++ a ∷ [])) (cond t ys (ys ++ b ∷ []))
-push_paired P xs ys a b h p true = h
-push_paired P xs ys a b h p false = AllZip-push P xs ys a b h p
+has_paired P one _ _ a b h p = absurd h
 
 pub met_paired : (P : ℕ → ℕ → Type 0) → IsOneToOne P → (xs ys : List ℕ) (a b : ℕ) → AllZip P xs ys → P a b
     → AllZip P (met xs a) (met ys b)
 met_paired P one xs ys a b h p =
-    subst (λ t. AllZip P (met xs a) (cond t ys (ys ++ b ∷ []))) (has_paired P one xs ys a b h p)
-    (push_paired P xs ys a b h p (list_any (nat_eq a) xs))
+    rw (← has_paired P one xs ys a b h p)
+    (elim (list_any (nat_eq a) xs) as (λ t. AllZip P (cond t xs (xs ++ a ∷ [])) (cond t ys (ys ++ b ∷ []))) [
+      | true ↦ h
+      | false ↦ AllZip-push P xs ys a b h p
+    ])
 
 pub met_all_paired : (P : ℕ → ℕ → Type 0) → IsOneToOne P → (refs sefs : List (Option ℕ)) (xs ys : List ℕ)
     → AllZip P xs ys → AllZip (IsPairedOrNone P) refs sefs → AllZip P (met_all xs refs) (met_all ys sefs)
 met_all_paired P one [] [] xs ys h p = h
-met_all_paired P one [] (s ∷ sefs) xs ys h p = absurd p
-met_all_paired P one (r ∷ refs) [] xs ys h p = absurd p
 met_all_paired P one (None ∷ refs) (None ∷ sefs) xs ys h p = met_all_paired P one refs sefs xs ys h p.1
-met_all_paired P one (None ∷ refs) (Some y ∷ sefs) xs ys h p = absurd p.0
-met_all_paired P one (Some x ∷ refs) (None ∷ sefs) xs ys h p = absurd p.0
 met_all_paired P one (Some x ∷ refs) (Some y ∷ sefs) xs ys h p =
     met_all_paired P one refs sefs (met xs x) (met ys y) (met_paired P one xs ys x y h p.0) p.1
+met_all_paired P one (_ ∷ refs) (_ ∷ sefs) xs ys h p = absurd p.0
+met_all_paired P one _ _ xs ys h p = absurd p
 
 -- paired lists have, at each place, paired elements or none in both
 pub at_paired : (P : ℕ → ℕ → Type 0) (xs ys : List ℕ) (n : ℕ) → AllZip P xs ys
     → IsPairedOrNone P (slice_get xs n) (slice_get ys n)
 at_paired P [] [] n h = tt
-at_paired P [] (y ∷ ys) n h = absurd h
-at_paired P (x ∷ xs) [] n h = absurd h
 at_paired P (x ∷ xs) (y ∷ ys) zero h = h.0
 at_paired P (x ∷ xs) (y ∷ ys) (suc n) h = at_paired P xs ys n h.1
+at_paired P _ _ n h = absurd h
 
 module _ (P : ℕ → ℕ → Type 0) (cells others : List Content) (roots targets : List ℕ)
     (h : IsPairing P cells roots others targets) where
   visited_paired : (xs ys : List ℕ) → AllZip P xs ys → (r s : Option ℕ) → IsPairedOrNone P r s
       → AllZip P (visited cells xs r) (visited others ys s)
   visited_paired xs ys z None None p = z
-  visited_paired xs ys z None (Some y) p = absurd p
-  visited_paired xs ys z (Some x) None p = absurd p
   visited_paired xs ys z (Some x) (Some y) p = met_all_paired P h.one_to_one _ _ xs ys z (h.refs_paired x y p)
+  visited_paired xs ys z _ _ p = absurd p
 
   -- two walks go in lock step
   pub met_in_paired : (n : ℕ) → AllZip P (met_in cells roots n) (met_in others targets n)

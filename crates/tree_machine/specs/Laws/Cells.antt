@@ -1,5 +1,5 @@
 -- Canonical forms are equal exactly where the cells can be paired.
-use Rattle.std.proofs.Common.{◌≡◌, ℕ, ◌+◌, ◌↔◌, List, [], ◌∷◌, ◌++◌, map, length, refl, sym, ◌∙◌, ap, subst, inl, inr}
+use Rattle.std.proofs.Common.{◌≡◌, ℕ, zero, suc, ◌+◌, ◌↔◌, List, [], ◌∷◌, map, length, refl, sym, ◌∙◌, ap, subst}
 use Rattle.std.proofs.Common.{arith, add_comm}
 use Rattle.std.specs.Prelude.{slice_get, Option, Some, None}
 use Rattle.std.specs.List.{AllZip, zip}
@@ -8,8 +8,8 @@ use Rattle.tree_machine.specs.Cells.{Content, IsPairedOrNone, IsPairing, CanBePa
 use Rattle.tree_machine.specs.Cells.{place_in, renamed, order_of, canonical}
 use Rattle.tree_machine.specs.Pairing.{IsAmong}
 use Rattle.tree_machine.specs.Laws.CellSteps.{met_in_paired}
-use Rattle.tree_machine.specs.Laws.CellOrder.{HasAll, Extends, IsOrder, met_in_order, met_in_stable, met_in_extends}
-use Rattle.tree_machine.specs.Laws.CellOrder.{order_closed}
+use Rattle.tree_machine.specs.Laws.CellOrder.{HasAll, get_extends, met_in_order, met_in_stable}
+use Rattle.tree_machine.specs.Laws.CellOrder.{met_in_extends, order_closed}
 use Rattle.tree_machine.specs.Laws.CellPlaces.{refs_renamed, place_from_has, get_place, has_at, among_at, at_among}
 use Rattle.tree_machine.specs.Laws.CellPlaces.{rel_among, zip_one}
 
@@ -18,9 +18,8 @@ use Rattle.tree_machine.specs.Laws.CellPlaces.{rel_among, zip_one}
 pub map_paired : {A B C : Type 0} (P : A → B → Type 0) (f : A → C) (g : B → C) → ((x : A) (y : B) → P x y → f x ≡ g y)
     → (xs : List A) (ys : List B) → AllZip P xs ys → map f xs ≡ map g ys
 map_paired P f g h [] [] z = refl
-map_paired P f g h [] (y ∷ ys) z = absurd z
-map_paired P f g h (x ∷ xs) [] z = absurd z
-map_paired P f g h (x ∷ xs) (y ∷ ys) z = let first = h x y z.0 in let rest = map_paired P f g h xs ys z.1 in cc
+map_paired P f g h (x ∷ xs) (y ∷ ys) z = cc (h x y z.0, map_paired P f g h xs ys z.1)
+map_paired P f g h _ _ z = absurd z
 
 module _ (P : ℕ → ℕ → Type 0) (cells others : List Content) (roots targets : List ℕ) (rooted : IsRooted cells roots)
     (aimed : IsRooted others targets) (h : IsPairing P cells roots others targets) where
@@ -46,35 +45,28 @@ module _ (P : ℕ → ℕ → Type 0) (cells others : List Content) (roots targe
 pub unmap : {A B C : Type 0} (f : A → C) (g : B → C) (xs : List A) (ys : List B) → map f xs ≡ map g ys
     → AllZip (λ x y. f x ≡ g y) xs ys
 unmap f g [] [] e = tt
-unmap f g [] (y ∷ ys) e = cc
-unmap f g (x ∷ xs) [] e = cc
 unmap f g (x ∷ xs) (y ∷ ys) e = (cc, unmap f g xs ys (cc))
+unmap f g _ _ e = cc
 
 pub AllZip-weaker : {A B : Type 0} (P Q : A → B → Type 0) → ((x : A) (y : B) → P x y → Q x y)
     → (xs : List A) (ys : List B)
     → AllZip P xs ys → AllZip Q xs ys
 AllZip-weaker P Q h [] [] z = tt
-AllZip-weaker P Q h [] (y ∷ ys) z = absurd z
-AllZip-weaker P Q h (x ∷ xs) [] z = absurd z
 AllZip-weaker P Q h (x ∷ xs) (y ∷ ys) z = (h x y z.0, AllZip-weaker P Q h xs ys z.1)
+AllZip-weaker P Q h _ _ z = absurd z
 
-fronts_paired : (xs ys vs ws : List ℕ) → length xs ≡ length ys → AllZip (IsAmong (zip (xs ++ vs) (ys ++ ws))) xs ys
-fronts_paired [] [] vs ws e = tt
-fronts_paired [] (y ∷ ys) vs ws e = absurd (omega arith)
-fronts_paired (x ∷ xs) [] vs ws e = absurd (omega arith)
-fronts_paired (x ∷ xs) (y ∷ ys) vs ws e = (
-  inl (refl, refl),
-  AllZip-weaker (IsAmong (zip (xs ++ vs) (ys ++ ws)))
-      (IsAmong (zip ((x ∷ xs) ++ vs) ((y ∷ ys) ++ ws))) (λ a b h. inr h) xs ys
-      (fronts_paired xs ys vs ws (omega arith)),
-)
+-- lists of one length are paired where their elements are at each place
+zip_at_each : (P : ℕ → ℕ → Type 0) (xs ys : List ℕ) → length xs ≡ length ys
+    → ((k x y : ℕ) → slice_get xs k ≡ Some x → slice_get ys k ≡ Some y → P x y) → AllZip P xs ys
+zip_at_each P [] [] l h = tt
+zip_at_each P (x ∷ xs) (y ∷ ys) l h =
+    (h zero x y refl refl, zip_at_each P xs ys (omega arith) (λ k. h (suc k)))
+zip_at_each P _ _ l h = absurd (omega arith)
 
 pub refs_from_renamed : (xs ys : List ℕ) (refs sefs : List (Option ℕ)) → HasAll xs refs → HasAll ys sefs
     → map (option_and_then (place_in xs)) refs ≡ map (option_and_then (place_in ys)) sefs
     → AllZip (IsPairedOrNone (IsAmong (zip xs ys))) refs sefs
 refs_from_renamed xs ys [] [] h g e = tt
-refs_from_renamed xs ys [] (s ∷ sefs) h g e = cc
-refs_from_renamed xs ys (r ∷ refs) [] h g e = cc
 refs_from_renamed xs ys (None ∷ refs) (None ∷ sefs) h g e = (tt, refs_from_renamed xs ys refs sefs h g (cc))
 refs_from_renamed xs ys (None ∷ refs) (Some y ∷ sefs) h g e =
     let k = place_from_has ys y g.0 in
@@ -88,47 +80,41 @@ refs_from_renamed xs ys (Some x ∷ refs) (Some y ∷ sefs) h g e =
       among_at xs ys k.0 x y (get_place xs x k.0 k.1) (get_place ys y k.0 (sym same ∙ k.1)),
       refs_from_renamed xs ys refs sefs h.1 g.1 (cc),
     )
+refs_from_renamed xs ys _ _ h g e = cc
 
--- the places of two orders that give equal results
-module _ (cells others : List Content) (xs ys : List ℕ) (xs_order : IsOrder (length cells) xs)
-    (ys_order : IsOrder (length others) ys) where
-  pairing_from_orders : (roots targets : List ℕ) → length roots ≡ length targets → Extends roots xs → Extends targets ys
-      →
-      ((k x : ℕ) → slice_get xs k ≡ Some x → HasAll xs (content_at cells x).refs)
-      → ((k y : ℕ) → slice_get ys k ≡ Some y → HasAll ys (content_at others y).refs) →
-      map (λ x. renamed xs (content_at cells x)) xs ≡ map (λ y. renamed ys (content_at others y)) ys →
-      IsPairing (IsAmong (zip xs ys)) cells roots others targets
-  pairing_from_orders roots targets l front_x front_y closed_x closed_y e =
+module _ (cells others : List Content) (roots targets : List ℕ) (rooted : IsRooted cells roots)
+    (aimed : IsRooted others targets) (l : length roots ≡ length targets) where
+  -- the places of two orders that give equal results
+  pairing_from_equal : canonical cells roots ≡ canonical others targets
+      → IsPairing (IsAmong (zip (order_of cells roots) (order_of others targets))) cells roots others targets
+  pairing_from_equal e =
+      let xs = order_of cells roots in
+      let ys = order_of others targets in
+      let here = met_in_order cells roots rooted (length cells) in
+      let there = met_in_order others targets aimed (length others) in
+      let front_x = met_in_extends cells roots (length cells) in
+      let front_y = met_in_extends others targets (length others) in
       let same = unmap (λ x. renamed xs (content_at cells x)) (λ y. renamed ys (content_at others y)) xs ys e in
       record {
-        one_to_one = zip_one xs ys xs_order.distinct ys_order.distinct;
+        one_to_one = zip_one xs ys here.distinct there.distinct;
         in_range = λ x y h.
             let p = at_among xs ys x y h in
-            (xs_order.below x (has_at xs p.0 x p.1), ys_order.below y (has_at ys p.0 y p.2));
-        roots_paired =
-            rw (front_x.is, front_y.is) (fronts_paired roots targets front_x.rest front_y.rest l);
+            (here.below x (has_at xs p.0 x p.1), there.below y (has_at ys p.0 y p.2));
+        roots_paired = zip_at_each _ roots targets l (λ k x y h g.
+            among_at xs ys k x y (get_extends front_x k x h) (get_extends front_y k y g));
         facts_equal = λ x y h. ap (λ c. c.facts) (rel_among _ xs ys same x y h);
         refs_paired = λ x y h.
             let p = at_among xs ys x y h in
-            refs_from_renamed xs ys _ _ (closed_x p.0 x p.1) (closed_y p.0 y p.2)
-            (ap (λ c. c.refs) (rel_among _ xs ys same x y h));
+            refs_from_renamed xs ys _ _ (order_closed cells roots rooted p.0 x p.1)
+            (order_closed others targets aimed p.0 y p.2) (ap (λ c. c.refs) (rel_among _ xs ys same x y h));
       }
 
--- two results are equal exactly if some set of pairs is a pairing
-pub canonical_exactly : (cells others : List Content) (roots targets : List ℕ) → IsRooted cells roots
-    → IsRooted others targets → length roots ≡ length targets → (canonical cells roots ≡ canonical others targets)
-    ↔ CanBePaired cells roots others targets
-canonical_exactly cells others roots targets rooted aimed l = (
-  λ e. (
-    zip (order_of cells roots) (order_of others targets),
-    pairing_from_orders cells others (order_of cells roots) (order_of others targets)
-        (met_in_order cells roots rooted (length cells)) (met_in_order others targets aimed (length others)) roots
-        targets l
-        (met_in_extends cells roots (length cells)) (met_in_extends others targets (length others))
-        (order_closed cells roots rooted) (order_closed others targets aimed) e,
-  ),
-  λ p. equal_from_pairing (IsAmong p.0) cells others roots targets rooted aimed p.1,
-)
+  -- two results are equal exactly if some set of pairs is a pairing
+  pub canonical_exactly : (canonical cells roots ≡ canonical others targets) ↔ CanBePaired cells roots others targets
+  canonical_exactly = (
+    λ e. (zip (order_of cells roots) (order_of others targets), pairing_from_equal e),
+    λ p. equal_from_pairing (IsAmong p.0) cells others roots targets rooted aimed p.1,
+  )
 
 -- the answer of a walk that met this order
 pub answer_is : (cells : List Content) (roots order : List ℕ) (answer : List Content) → order ≡ order_of cells roots

@@ -1,12 +1,13 @@
 -- Bytes determine what they are of: nodes, records and what threads hold, and states.
-use Rattle.std.proofs.Common.{◌≡◌, ℕ, ◌⊎◌, List, [], ◌∷◌, ◌++◌, map, length, take, drop}
-use Rattle.std.proofs.Common.{refl, sym, ◌∙◌, ap, inl, inr, arith, append_assoc, append-nil, length-append}
-use Rattle.std.specs.Prelude.{Option}
+use Rattle.std.proofs.Common.{◌≡◌, ℕ, List, [], ◌∷◌, ◌++◌, map, length, take, drop}
+use Rattle.std.proofs.Common.{refl, sym, ◌∙◌, ap, arith, append_assoc, append-nil, length-append}
+use Rattle.std.specs.Prelude.{Option, Some, None}
 use Rattle.std.proofs.lemmas.List.{length-map, take-append-drop}
 use Rattle.tree_machine.specs.Cells.{Content}
 use Rattle.tree_machine.specs.Parts.{Part, Parts}
-use Rattle.tree_machine.specs.Flat.{part_content, part_codes, graph_code, left_code, parts_code}
-use Rattle.tree_machine.specs.Laws.Flat.{number_read, number_split, flat_split}
+use Rattle.tree_machine.specs.Flat.{cell_code, graph_code, left_code, number_code, part_codes, part_content}
+use Rattle.tree_machine.specs.Flat.{parts_code, reference_number}
+use Rattle.tree_machine.specs.Laws.Flat.{each_readable, facts_split, number_read, number_split}
 use Rattle.tree_machine.specs.declared.front.Front.{Front}
 use Rattle.tree_machine.specs.Alike.{FormContent, places_of, replies_of, notes_of}
 use Rattle.tree_machine.specs.FormCode.{IsInjective, TellsWholly, content_code, cut_code, state_code}
@@ -19,12 +20,23 @@ pub map_tells : {X Y : Type 0} (f : X → Y) → ((x y : X) → f x ≡ f y → 
     → xs ≡ ys
 map_tells f tells [] [] e = refl
 map_tells f tells (x ∷ xs) (y ∷ ys) e =
-    let first : f x ≡ f y = cc in
-    let others : map f xs ≡ map f ys = cc in
-    let same = tells x y first in
-    let rest = map_tells f tells xs ys others in
-    cc
+    cc (tells x y (cc), map_tells f tells xs ys (cc))
 map_tells f tells _ _ e = cc
+
+-- ---- cells
+
+reference_same : (r s : Option ℕ) → reference_number r ≡ reference_number s → r ≡ s
+reference_same None None e = refl
+reference_same (Some x) (Some y) e = cc
+reference_same _ _ e = absurd (omega arith)
+
+cell_split : (c d : Content) (xs ys : List ℕ) → cell_code c ++ xs ≡ cell_code d ++ ys → (c ≡ d) × (xs ≡ ys)
+cell_split c d xs ys e =
+    let facts = facts_split c.facts d.facts (length c.refs) (length d.refs) _ _ (simp append_assoc at e) in
+    let refs = each_readable number_code number_split (map reference_number c.refs) (map reference_number d.refs) xs ys
+    (simp length-map facts.1) facts.2 in
+    let same = map_tells reference_number reference_same c.refs d.refs refs.0 in
+    (λ i. record { facts = facts.0 i; refs = same i }, refs.1)
 
 -- ---- parts
 
@@ -41,8 +53,9 @@ same_part p q e =
 parts_split : (ps qs : List Part) (xs ys : List ℕ) → length ps ≡ length qs → part_codes ps ++ xs ≡ part_codes qs ++ ys
     → (ps ≡ qs) × (xs ≡ ys)
 parts_split ps qs xs ys l e =
-    let split = flat_split (map part_content ps) (map part_content qs) xs ys (simp length-map l) e in
-    (map_tells part_content same_part ps qs split.0, split.1)
+    let cells =
+    each_readable cell_code cell_split (map part_content ps) (map part_content qs) xs ys (simp length-map l) e in
+    (map_tells part_content same_part ps qs cells.0, cells.1)
 
 -- nodes and records in front of other bytes
 graph_split : (ns rs ms ss : List Part) (xs ys : List ℕ) → graph_code ns rs ++ xs ≡ graph_code ms ss ++ ys
@@ -56,32 +69,14 @@ graph_split ns rs ms ss xs ys e =
     let both = halves ns ms rs ss nodes.0 split.0 in
     (both.0, both.1, split.1)
 
--- what is left, if something is
-IsLeft : List Part → List Part → Type 0
-IsLeft ns rs = ((ns ≡ []) × (rs ≡ []) × (left_code ns rs ≡ [])) ⊎ (left_code ns rs ≡ graph_code ns rs)
-
-is_left : (ns rs : List Part) → IsLeft ns rs
-unfolding IsLeft
-is_left [] [] = inl (refl, refl, refl)
-is_left [] (r ∷ rs) = inr refl
-is_left (n ∷ ns) rs = inr refl
-
 graph_is_some : (ns rs : List Part) → [] ≡ graph_code ns rs → ⊥
 graph_is_some ns rs e = let long = simp length-append at (ap length e) in omega (arith, long)
 
 left_tells : (ns rs ms ss : List Part) → left_code ns rs ≡ left_code ms ss → (ns ≡ ms) × (rs ≡ ss)
-unfolding IsLeft
-left_tells ns rs ms ss e = go (is_left ns rs) (is_left ms ss)
-  where
-    go : IsLeft ns rs → IsLeft ms ss → (ns ≡ ms) × (rs ≡ ss)
-    go (inl p) (inl q) = (cc, cc)
-    go (inl p) (inr q) = absurd (graph_is_some ms ss (cc (p.2, e, q)))
-    go (inr p) (inl q) = absurd (graph_is_some ns rs (cc (q.2, e, p)))
-    go (inr p) (inr q) =
-        let split =
-        graph_split ns rs ms ss [] []
-        (append-nil (graph_code ns rs) ∙ cc (p, e, q) ∙ sym (append-nil (graph_code ms ss))) in
-        (split.0, split.1)
+left_tells [] [] [] [] e = (refl, refl)
+left_tells [] [] ms ss e = absurd (graph_is_some ms ss e)
+left_tells ns rs [] [] e = absurd (graph_is_some ns rs (sym e))
+left_tells ns rs ms ss e = let split = graph_split ns rs ms ss [] [] (simp append-nil e) in (split.0, split.1)
 
 -- equal bytes are of equal parts, cut alike
 pub parts_code_tells : (f g : Front) (s t : Parts) → length s.held ≡ length t.held → parts_code f s ≡ parts_code g t
@@ -105,14 +100,13 @@ parts_code_tells f g s t l e =
 same_threads : {Place : Type 0} (a b : List (Thread Place)) → places_of a ≡ places_of b → replies_of a ≡ replies_of b
     → notes_of a ≡ notes_of b → a ≡ b
 same_threads [] [] places replies notes = refl
-same_threads [] (u ∷ b) places replies notes = cc
-same_threads (t ∷ a) [] places replies notes = cc
 same_threads (t ∷ a) (u ∷ b) places replies notes =
     let place : t.place ≡ u.place = cc in
     let reply : t.replies ≡ u.replies = cc in
     let note : t.notes ≡ u.notes = cc in
     let rest = same_threads a b (cc) (cc) (cc) in
     λ i. record { replies = reply i; place = place i; notes = note i } ∷ rest i
+same_threads _ _ places replies notes = cc
 
 -- equal bytes are of equal states, where those of memories and places held are of equal ones
 pub state_codes_tell : {Machine Memory Place Form : Type 0} (code twin_code : Memory → List (Option Place) → List ℕ)

@@ -1,13 +1,11 @@
--- Bytes determine the numbers and the cells that they begin with.
-use Rattle.std.proofs.Common.{◌≡◌, ℕ, zero, suc, ◌+◌, ◌*◌, ◌/◌, ◌%◌, ◌<◌, ◌⊎◌, Bool, true, false, List, []}
-use Rattle.std.proofs.Common.{◌∷◌, ◌++◌, map, length, replicate, refl, ap, inl, inr, arith, append_assoc}
-use Rattle.std.specs.Prelude.{Option, Some, None, nat_lt}
+-- Bytes determine the numbers and the facts that they begin with.
+use Rattle.std.proofs.Common.{◌≡◌, ℕ, zero, suc, ◌+◌, ◌*◌, ◌/◌, ◌%◌, ◌<◌, ◌⊎◌, List, []}
+use Rattle.std.proofs.Common.{◌∷◌, ◌++◌, length, replicate, refl, ap, inl, inr, arith, append_assoc}
+use Rattle.std.specs.Prelude.{nat_lt, ◌&&◌}
 use Rattle.std.specs.List.{flat_map}
-use Rattle.std.proofs.lemmas.Bool.{ltb-true}
-use Rattle.std.proofs.lemmas.List.{length-map}
+use Rattle.std.proofs.lemmas.Bool.{and_parts, cases_Bool, ltb-true}
 use Rattle.std.proofs.lemmas.List.Concat.{flat_map-cons}
-use Rattle.tree_machine.specs.Cells.{Content}
-use Rattle.tree_machine.specs.Flat.{number_code, long_code, facts_code, reference_number, cell_code, flat}
+use Rattle.tree_machine.specs.Flat.{number_code, long_code, facts_code}
 
 -- ---- one number
 
@@ -40,12 +38,11 @@ IsReadable {A} code = (x y : A) (xs ys : List ℕ) → code x ++ xs ≡ code y +
 pub each_readable : {A : Type 0} (code : A → List ℕ) → IsReadable code → (cs ds : List A) (xs ys : List ℕ)
     → length cs ≡ length ds → flat_map code cs ++ xs ≡ flat_map code ds ++ ys → (cs ≡ ds) × (xs ≡ ys)
 each_readable code readable [] [] xs ys l e = (refl, e)
-each_readable code readable [] (d ∷ ds) xs ys l e = absurd (omega arith)
-each_readable code readable (c ∷ cs) [] xs ys l e = absurd (omega arith)
 each_readable code readable (c ∷ cs) (d ∷ ds) xs ys l e =
     let first = readable c d _ _ (simp (flat_map-cons code, append_assoc) at e) in
     let rest = each_readable code readable cs ds xs ys (omega arith) first.1 in
     (cc (first.0, rest.0), rest.1)
+each_readable code readable _ _ xs ys l e = absurd (omega arith)
 
 -- ---- facts
 
@@ -60,48 +57,28 @@ short_or_long : (facts : List ℕ) (refs : ℕ) → IsShortOrLong facts refs
 unfolding IsShortOrLong
 short_or_long [] refs = inr refl
 short_or_long (first ∷ more) refs =
-    go (nat_lt first 6) (nat_lt (length more) 5) (nat_lt refs 8) refl refl refl
-  where
-    go : (a b c : Bool) → nat_lt first 6 ≡ a → nat_lt (length more) 5 ≡ b → nat_lt refs 8 ≡ c
-        → IsShortOrLong (first ∷ more) refs
-    go true true true e f g = inl
-        (first, more, refl, ltb-true first 6 e, ltb-true (length more) 5 f, ltb-true refs 8 g, rw (e, f, g) refl)
-    go true true false e f g = inr (rw (e, f, g) refl)
-    go true false c e f g = inr (rw (e, f) refl)
-    go false b c e f g = inr (rw e refl)
+    elim (cases_Bool (nat_lt first 6 && (nat_lt (length more) 5 && nat_lt refs 8))) [
+      | inl e ↦
+          let p = and_parts (nat_lt first 6) (nat_lt (length more) 5 && nat_lt refs 8) e in
+          let q = and_parts (nat_lt (length more) 5) (nat_lt refs 8) p.1 in
+          inl (first, more, refl, ltb-true first 6 p.0, ltb-true (length more) 5 q.0, ltb-true refs 8 q.1, rw e refl)
+      | inr e ↦ inr (rw e refl)
+    ]
 
-long_split : (fs gs : List ℕ) (r s : ℕ) (xs ys : List ℕ) → long_code fs r ++ xs ≡ long_code gs s ++ ys
-    → (fs ≡ gs) × (r ≡ s) × (xs ≡ ys)
-long_split fs gs r s xs ys e =
-    let whole = simp append_assoc at e in
-    let lengths = number_read (length fs) (length gs) _ _ (cc whole) in
-    let refs = number_read r s _ _ lengths.1 in
-    let facts = each_readable number_code number_split fs gs xs ys lengths.0 refs.1 in
-    (facts.0, refs.0, facts.1)
-
-short_split : (a b : ℕ) (ms ns : List ℕ) (r s : ℕ) (xs ys : List ℕ) → a < 6 → length ms < 5 → r < 8 → b < 6
-    → length ns < 5 → s < 8 → (length ms + 5 * a + 30 * r) ∷ (flat_map number_code ms ++ xs)
-    ≡ (length ns + 5 * b + 30 * s) ∷ (flat_map number_code ns ++ ys) →
-    (a ∷ ms ≡ b ∷ ns) × (r ≡ s) × (xs ≡ ys)
-short_split a b ms ns r s xs ys h1 h2 h3 h4 h5 h6 e =
-    let head : length ms + 5 * a + 30 * r ≡ length ns + 5 * b + 30 * s = cc in
-    let behind : flat_map number_code ms ++ xs ≡ flat_map number_code ns ++ ys = cc in
-    let refs : r ≡ s = omega arith in
-    let first : a ≡ b = omega arith in
-    let lengths : length ms ≡ length ns = omega arith in
-    let facts = each_readable number_code number_split ms ns xs ys lengths behind in
-    (cc facts.0, refs, facts.1)
-
-facts_split : (fs gs : List ℕ) (r s : ℕ) (xs ys : List ℕ) → facts_code fs r ++ xs ≡ facts_code gs s ++ ys
+pub facts_split : (fs gs : List ℕ) (r s : ℕ) (xs ys : List ℕ) → facts_code fs r ++ xs ≡ facts_code gs s ++ ys
     → (fs ≡ gs) × (r ≡ s) × (xs ≡ ys)
 unfolding IsShortOrLong
 facts_split fs gs r s xs ys e = go (short_or_long fs r) (short_or_long gs s)
   where
     go : IsShortOrLong fs r → IsShortOrLong gs s → (fs ≡ gs) × (r ≡ s) × (xs ≡ ys)
-    go (inl p) (inl q) =
-        let same =
-        short_split p.0 q.0 p.1 q.1 r s xs ys p.3 p.4 p.5 q.3 q.4 q.5 (rw (p.6, q.6) at e) in
-        (cc (p.2, same.0, q.2), same.1, same.2)
+    go (inl (a, ms, f, low, few, small, p)) (inl (b, ns, g, down, less, little, q)) =
+        let bytes = rw (p, q) at e in
+        let head : length ms + 5 * a + 30 * r ≡ length ns + 5 * b + 30 * s = cc bytes in
+        let behind : flat_map number_code ms ++ xs ≡ flat_map number_code ns ++ ys = cc bytes in
+        let refs : r ≡ s = omega arith in
+        let first : a ≡ b = omega arith in
+        let facts = each_readable number_code number_split ms ns xs ys (omega arith) behind in
+        (cc (f, g, first, facts.0), refs, facts.1)
     go (inl p) (inr q) =
         let heads = rw (p.6, q) at e in
         let head : length p.1 + 5 * p.0 + 30 * r ≡ 255 = cc heads in
@@ -110,35 +87,9 @@ facts_split fs gs r s xs ys e = go (short_or_long fs r) (short_or_long gs s)
         let heads = rw (p, q.6) at e in
         let head : 255 ≡ length q.1 + 5 * q.0 + 30 * s = cc heads in
         absurd (omega (arith, q.3, q.4, q.5, head))
-    go (inr p) (inr q) = long_split fs gs r s xs ys (rw (p, q) at e)
-
--- ---- cells
-
-references_equal : (refs sefs : List (Option ℕ)) → map reference_number refs ≡ map reference_number sefs → refs ≡ sefs
-references_equal [] [] e = refl
-references_equal [] (s ∷ sefs) e = cc
-references_equal (r ∷ refs) [] e = cc
-references_equal (r ∷ refs) (s ∷ sefs) e =
-    let first = same r s (let head : reference_number r ≡ reference_number s = cc in head) in
-    let rest =
-    references_equal refs sefs (let tail : map reference_number refs ≡ map reference_number sefs = cc in tail) in
-    cc (first, rest)
-  where
-    same : (r s : Option ℕ) → reference_number r ≡ reference_number s → r ≡ s
-    same None None e = refl
-    same None (Some y) e = absurd (omega arith)
-    same (Some x) None e = absurd (omega arith)
-    same (Some x) (Some y) e = let inner : x ≡ y = omega arith in ap Some inner
-
-cell_split : (c d : Content) (xs ys : List ℕ) → cell_code c ++ xs ≡ cell_code d ++ ys → (c ≡ d) × (xs ≡ ys)
-cell_split c d xs ys e =
-    let facts = facts_split c.facts d.facts (length c.refs) (length d.refs) _ _ (simp append_assoc at e) in
-    let refs = each_readable number_code number_split (map reference_number c.refs) (map reference_number d.refs) xs ys
-    (simp length-map facts.1) facts.2 in
-    let same = references_equal c.refs d.refs refs.0 in
-    (λ i. record { facts = facts.0 i; refs = same i }, refs.1)
-
--- equally many cells in front of other bytes
-pub flat_split : (cells others : List Content) (xs ys : List ℕ) → length cells ≡ length others
-    → flat cells ++ xs ≡ flat others ++ ys → (cells ≡ others) × (xs ≡ ys)
-flat_split = each_readable cell_code cell_split
+    go (inr p) (inr q) =
+        let bytes = simp append_assoc at (rw (p, q) at e) in
+        let lengths = number_read (length fs) (length gs) _ _ (cc bytes) in
+        let refs = number_read r s _ _ lengths.1 in
+        let facts = each_readable number_code number_split fs gs xs ys lengths.0 refs.1 in
+        (facts.0, refs.0, facts.1)

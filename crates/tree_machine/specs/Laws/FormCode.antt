@@ -3,20 +3,19 @@ use Rattle.std.specs.Prelude.{◌≡◌, ℕ, ◌/◌, ◌%◌, Bool, true, fals
 use Rattle.std.specs.Prelude.{Some, None, nat_eq}
 use Rattle.std.specs.Cmp.{IsEquivalence}
 use Rattle.std.specs.Cmp.Lexicographic.{pointwise}
-use Rattle.std.proofs.Common.{refl, sym, ◌∙◌, ap, subst, arith, append_assoc}
+use Rattle.std.proofs.Common.{◌+◌, refl, sym, ◌∙◌, ap, subst, arith, append_assoc, get_or}
 use Rattle.std.proofs.lemmas.Cmp.{lists_equiv}
 use Rattle.sched_program.specs.Exact.{IsExact}
 use Rattle.sched_program.specs.Laws.Exact.{nat_exact, list_exact}
 use Rattle.tree_machine.specs.Laws.CellOrder.{nat_equivalence}
 use Rattle.tree_machine.specs.Alike.{FormContent, notes_of, places_of, replies_of}
 use Rattle.tree_machine.specs.Laws.StateExact.{same_answer}
-use Rattle.tree_machine.specs.FormCode.{list_code, replies_code, note_code, astray_code, content_code}
-use Rattle.tree_machine.specs.FormCode.{IsInjective}
+use Rattle.tree_machine.specs.FormCode.{list_code, replies_code, note_code, astray_code, content_code, IsInjective}
 use Rattle.tree_machine.specs.Laws.Flat.{number_split, IsReadable, each_readable}
-use Rattle.tree_machine.specs.Laws.Packed.{replies_least}
+use Rattle.tree_machine.specs.Laws.Packed.{digits_of_number}
 use Rattle.tree_machine.specs.Laws.ShortNotes.{counts_of_number, number_below}
 use Rattle.tree_machine.specs.declared.state.State.{State}
-use Rattle.tree_machine.specs.Packed.{counts_in, is_short, note_number, replies_number}
+use Rattle.tree_machine.specs.Packed.{digits_of, is_short, note_number, replies_number}
 
 -- what the bytes of a state are of, behind its steps
 abbrev pub state_content : {Machine Memory Place Form : Type 0} → (Memory → List (Option Place) → List ℕ)
@@ -32,13 +31,9 @@ list_readable : {A : Type 0} (code : A → List ℕ) → IsReadable code → IsR
 list_readable code readable cs ds xs ys e = each_readable code readable cs ds xs ys (cc) (cc)
 
 replies_injective : (a b : List Bool) → replies_number a ≡ replies_number b → a ≡ b
-replies_injective [] [] e = refl
-replies_injective [] (r ∷ b) e = let least = replies_least b in absurd (omega (arith, e, least))
-replies_injective (r ∷ a) [] e = let least = replies_least a in absurd (omega (arith, e, least))
-replies_injective (true ∷ a) (true ∷ b) e = ap (λ l. true ∷ l) (replies_injective a b (omega (arith, e)))
-replies_injective (true ∷ a) (false ∷ b) e = absurd (omega (arith, e))
-replies_injective (false ∷ a) (true ∷ b) e = absurd (omega (arith, e))
-replies_injective (false ∷ a) (false ∷ b) e = ap (λ l. false ∷ l) (replies_injective a b (omega (arith, e)))
+replies_injective a b e =
+    let most = length a + length b in
+    sym (digits_of_number most a (omega arith)) ∙ ap (digits_of most) e ∙ digits_of_number most b (omega arith)
 
 replies_readable : IsReadable replies_code
 unfolding replies_code
@@ -49,9 +44,8 @@ replies_readable a b xs ys e =
 -- equal lists that are cut at one place have equal pieces
 pub halves : {A : Type 0} (xs us ys vs : List A) → length xs ≡ length us → xs ++ ys ≡ us ++ vs → (xs ≡ us) × (ys ≡ vs)
 halves [] [] ys vs l e = (refl, e)
-halves [] (u ∷ us) ys vs l e = absurd (omega arith)
-halves (x ∷ xs) [] ys vs l e = absurd (omega arith)
 halves (x ∷ xs) (u ∷ us) ys vs l e = let rest = halves xs us ys vs (omega arith) (cc) in (cc (e, rest.0), rest.1)
+halves _ _ ys vs l e = absurd (omega arith)
 
 -- a short note and one that is not begin with different bytes
 note_readable : IsReadable note_code
@@ -63,37 +57,20 @@ note_readable cs ds xs ys e = go (is_short cs) (is_short ds) refl refl e
         if short then note_number counts / 256 ∷ note_number counts % 256 ∷ [] else 255 ∷ length counts ∷ counts
 
     go : (short other : Bool) → is_short cs ≡ short → is_short ds ≡ other
-        → code (is_short cs) cs ++ xs ≡ code (is_short ds) ds ++ ys → (cs ≡ ds) × (xs ≡ ys)
+        → code short cs ++ xs ≡ code other ds ++ ys → (cs ≡ ds) × (xs ≡ ys)
     go true true c d e =
-        let same = rw (c, d) at e in
-        let high : note_number cs / 256 ≡ note_number ds / 256 = cc same in
-        let low : note_number cs % 256 ≡ note_number ds % 256 = cc same in
+        let high : note_number cs / 256 ≡ note_number ds / 256 = cc in
+        let low : note_number cs % 256 ≡ note_number ds % 256 = cc in
         let number : note_number cs ≡ note_number ds = omega arith in
-        (sym (counts_of_number cs c) ∙ (ap counts_in number ∙ counts_of_number ds d), cc same)
-    go true false c d e =
-        let same = rw (c, d) at e in
-        let high : note_number cs / 256 ≡ 255 = cc same in
-        absurd (omega (arith, number_below cs c))
-    go false true c d e =
-        let same = rw (c, d) at e in
-        let high : 255 ≡ note_number ds / 256 = cc same in
-        absurd (omega (arith, number_below ds d))
-    go false false c d e = let same = rw (c, d) at e in halves cs ds xs ys (cc same) (cc same)
+        (cc (counts_of_number cs c, counts_of_number ds d, number), cc)
+    go true false c d e = let high : note_number cs / 256 ≡ 255 = cc in absurd (omega (arith, number_below cs c))
+    go false true c d e = let high : 255 ≡ note_number ds / 256 = cc in absurd (omega (arith, number_below ds d))
+    go false false c d e = halves cs ds xs ys (cc) (cc)
 
 astray_readable : IsReadable astray_code
 astray_readable None None xs ys e = (refl, cc)
-astray_readable None (Some t) xs ys e = let same : ◌≡◌ {A = ℕ} 0 1 = cc in absurd (omega arith)
-astray_readable (Some t) None xs ys e = let same : ◌≡◌ {A = ℕ} 1 0 = cc in absurd (omega arith)
 astray_readable (Some t) (Some u) xs ys e = (cc, cc)
-
--- comparing bytes returns what comparing their values returns
-pub codes_same : {A : Type 0} (code : A → List ℕ) → IsInjective code → (E : A → A → Bool) → IsExact E
-    → IsEquivalence E → (a b : A) → pointwise nat_eq (code a) (code b) ≡ E a b
-codes_same {A} code readable E exact equivalence a b =
-    same_answer _ _
-    (λ h. subst (λ (c : A). E a c ≡ true) (readable a b (list_exact nat_exact _ _ h)) (equivalence.refl a))
-    (λ h. subst (λ (c : A). pointwise nat_eq (code a) (code c) ≡ true) (exact a b h)
-    ((lists_equiv nat_equivalence).refl (code a)))
+astray_readable _ _ xs ys e = absurd (omega (arith, ap (λ l. get_or l 0 0) e))
 
 module _ {Form : Type 0} (code : Form → List ℕ) (readable : IsInjective code) where
   pub content_readable : IsInjective (content_code code)
@@ -110,7 +87,12 @@ module _ {Form : Type 0} (code : Form → List ℕ) (readable : IsInjective code
       let form = readable a.form b.form astray.1 in
       λ i. record { form = form i; replies = replies.0 i; notes = notes.0 i; astray = astray.0 i }
 
-  -- forms are compared as their bytes are
+  -- comparing bytes returns what comparing the forms returns
   pub content_same : (E : FormContent Form → FormContent Form → Bool) → IsExact E → IsEquivalence E
       → (a b : FormContent Form) → pointwise nat_eq (content_code code a) (content_code code b) ≡ E a b
-  content_same = codes_same (content_code code) content_readable
+  content_same E exact equivalence a b =
+      same_answer _ _
+      (λ h. subst (λ (c : FormContent Form). E a c ≡ true) (content_readable a b (list_exact nat_exact _ _ h))
+      (equivalence.refl a))
+      (λ h. subst (λ (c : FormContent Form). pointwise nat_eq (content_code code a) (content_code code c) ≡ true)
+      (exact a b h) ((lists_equiv nat_equivalence).refl (content_code code a)))

@@ -1,13 +1,14 @@
 -- What comes in front: canonical parts are met in the order of their numbers, and where parts are, the front is their
 -- own.
 use Rattle.std.proofs.Common.{◌≡◌, ℕ, suc, ◌+◌, ◌<◌, ◌≤◌, List, [], ◌∷◌, ◌++◌, map, length, refl, take, sym}
-use Rattle.std.proofs.Common.{◌∙◌, ap, add-zero, append-nil, arith, zero, zero-add}
+use Rattle.std.proofs.Common.{◌∙◌, ap, append-nil, arith, zero, zero-add}
 use Rattle.std.specs.Prelude.{slice_get, Option, Some, None, nat_eq}
-use Rattle.std.specs.List.{All, AllZip, AllByRecursion, IsDistinct}
+use Rattle.std.specs.List.{AllZip, IsDistinct}
 use Rattle.std.specs.Option.{option_and_then}
 use Rattle.std.proofs.Math.Seq.{take-length, drop-length}
 use Rattle.std.proofs.lemmas.List.{length-map, length-take, length-take-le, take_all, take_at, take_min, take-map}
-use Rattle.std.proofs.lemmas.List.Elements.{recursion_from_All}
+use Rattle.std.proofs.lemmas.List.Elements.{All-from_recursion, All-weaker, recursion_from_All}
+use Rattle.std.proofs.lemmas.List.Folds.{map_fixed}
 use Rattle.std.proofs.lemmas.Map.Steps.{length-le_from_distinct_below}
 use Rattle.tree_machine.specs.Cells.{place_in}
 use Rattle.tree_machine.specs.Pairing.{IsAmong}
@@ -21,8 +22,8 @@ use Rattle.tree_machine.specs.Laws.CellPlaces.{place_at, has_at}
 use Rattle.tree_machine.specs.Laws.Codes.{parts_code_tells}
 use Rattle.tree_machine.specs.Laws.Graphs.{length-numbers_from}
 use Rattle.tree_machine.specs.Laws.CellLists.{numbers_all}
-use Rattle.tree_machine.specs.Laws.MetLists.{places, places_among}
-use Rattle.tree_machine.specs.Laws.PartsBy.{IsPartMet, AreMet, own_number}
+use Rattle.tree_machine.specs.Laws.MetLists.{own_number, places, places_among}
+use Rattle.tree_machine.specs.Laws.PartsBy.{IsPartMet, AreMet}
 use Rattle.tree_machine.specs.Laws.Canonical.{front_met, walk_met, walk_held, nodes_extended, records_extended}
 use Rattle.tree_machine.specs.Laws.Canonical.{places_paired, canonical_in_range}
 use Rattle.tree_machine.specs.Laws.CanonicalPairs.{fronts_paired}
@@ -30,23 +31,16 @@ use Rattle.tree_machine.specs.declared.front.Front.{Front}
 
 -- ---- numbers in their own order
 
-next_place : (a i : ℕ) → suc a + i ≡ a + suc i
-next_place a i = omega arith
-
 -- numbers that are the places of the elements from a on come in a row
 places_in_row : (ys : List ℕ) → IsDistinct nat_eq ys → (a : ℕ) (xs places_of : List ℕ)
-    → ((i x : ℕ) → slice_get xs i ≡ Some x → slice_get ys (a + i) ≡ Some x) → AllZip (IsAmong (places ys)) xs places_of
-    → places_of ≡ numbers_from a (length xs)
+    → ((i j x : ℕ) → j ≡ a + i → slice_get xs i ≡ Some x → slice_get ys j ≡ Some x)
+    → AllZip (IsAmong (places ys)) xs places_of → places_of ≡ numbers_from a (length xs)
 places_in_row ys d a [] [] h z = refl
-places_in_row ys d a [] (k ∷ ks) h z = absurd z
-places_in_row ys d a (x ∷ xs) [] h z = absurd z
 places_in_row ys d a (x ∷ xs) (k ∷ ks) h z =
     let here = place_at ys d k x (places_among ys x k z.0) in
-    let there = place_at ys d (a + 0) x (h 0 x refl) in
-    let same : k ≡ a + 0 = cc in
-    let first : k ≡ a = omega arith in
-    let rest = places_in_row ys d (suc a) xs ks (λ i v at. rw next_place (h (suc i) v at)) z.1 in
-    cc
+    let there = place_at ys d a x (h 0 a x (omega arith) refl) in
+    cc (here, there, places_in_row ys d (suc a) xs ks (λ i j v e. h (suc i) j v (omega arith)) z.1)
+places_in_row ys d a _ _ h z = absurd z
 
 -- where the numbers below f come first, names below f have themselves as places
 own_names : (f : ℕ) (xs : List ℕ) → IsDistinct nat_eq xs → Extends (numbers_from 0 f) xs → (refs : List (Option ℕ))
@@ -54,31 +48,22 @@ own_names : (f : ℕ) (xs : List ℕ) → IsDistinct nat_eq xs → Extends (numb
 own_names f xs d e [] h = refl
 own_names f xs d e (None ∷ refs) h = ap (λ l. None ∷ l) (own_names f xs d e refs h)
 own_names f xs d e (Some x ∷ refs) h =
-    let P : ℕ → Type 0 = λ x. slice_get (numbers_from 0 f) x ≡ Some x in
-    let own : All P (numbers_from 0 f) = numbers_all P 0 f (λ x l k. own_number x (omega arith)) in
-    let at : P x = all_has P (numbers_from 0 f) (recursion_from_All P _ own) x h.0 in
-    let first = place_at xs d x x (get_extends e x x at) in
-    let rest = own_names f xs d e refs h.1 in
-    cc
+    let below =
+    all_has (λ x. x < f) _ (recursion_from_All _ _ (numbers_all (λ x. x < f) 0 f (λ x l k. omega arith))) x h.0 in
+    cc (place_at xs d x x (get_extends e x x (own_number x below)), own_names f xs d e refs h.1)
 
 taken_first : (f : ℕ) (xs : List ℕ) → Extends (numbers_from 0 f) xs → take f xs ≡ numbers_from 0 f
 taken_first f xs e = ap (take f) e.is ∙ take_at (numbers_from 0 f) e.rest f (length-numbers_from 0 f)
 
--- a map that leaves the first parts as they are, by their numbers
-first_parts : (g : ℕ → Part) (f : ℕ) (xs : List ℕ) (parts : List Part) → Extends (numbers_from 0 f) xs
-    → f ≤ length parts → ((i : ℕ) → i < f → g i ≡ part_at parts i) → take f (map g xs) ≡ take f parts
-first_parts g f xs parts e l h =
-    take-map g f xs ∙ ap (map g) (taken_first f xs e) ∙ go 0 f parts l (λ i k. rw zero-add (h i k))
-  where
-    go : (a n : ℕ) (ps : List Part) → n ≤ length ps → ((i : ℕ) → i < n → g (a + i) ≡ part_at ps i)
-        → map g (numbers_from a n) ≡ take n ps
-    go a zero [] l h = refl
-    go a zero (p ∷ ps) l h = refl
-    go a (suc n) [] l h = absurd (omega arith)
-    go a (suc n) (p ∷ ps) l h =
-        let first : g a ≡ p = rw add-zero at (h 0 (omega arith)) in
-        let rest = go (suc a) n ps (omega arith) (λ i k. rw next_place (h (suc i) (omega arith))) in
-        cc
+-- a map that leaves parts as they are, by their numbers from a on
+parts_in_row : (g : ℕ → Part) (a n : ℕ) (parts : List Part) → n ≤ length parts
+    → ((i j : ℕ) → i < n → j ≡ a + i → g j ≡ part_at parts i) → map g (numbers_from a n) ≡ take n parts
+parts_in_row g a zero [] l h = refl
+parts_in_row g a zero (p ∷ ps) l h = refl
+parts_in_row g a (suc n) [] l h = absurd (omega arith)
+parts_in_row g a (suc n) (p ∷ ps) l h =
+    let rest = parts_in_row g (suc a) n ps (omega arith) (λ i j k same. h (suc i) j (omega arith) (omega arith)) in
+    cc (h 0 a (omega arith) (omega arith), rest)
 
 -- nodes and records that are met are no more than there are
 met_within : (fixed : ℕ) (s : Parts) {nodes records : List ℕ} → AreMet fixed s nodes records
@@ -100,10 +85,10 @@ canonical_in_order fixed s h =
     record {
       nodes =
           places_in_row (met_nodes fixed s) met.nodes_distinct 0 (front_nodes fixed s) _
-          (λ i x at. rw zero-add (get_extends (nodes_extended fixed s h _ _ front) i x at)) z.0;
+          (λ i j x e. rw (e, zero-add) (get_extends (nodes_extended fixed s h _ _ front) i x)) z.0;
       records =
           places_in_row (met_records fixed s) met.records_distinct 0 (front_records fixed s) _
-          (λ i x at. rw zero-add (get_extends (records_extended fixed s h _ _ front) i x at)) z.1;
+          (λ i j x e. rw (e, zero-add) (get_extends (records_extended fixed s h _ _ front) i x)) z.1;
     }
 
 -- ---- parts that are met in the order of their numbers
@@ -138,58 +123,54 @@ module _ (fixed : ℕ) (front : Front) (t : Parts) (h : ArePartsInRange fixed t)
       let records = own_names front.records (met_records fixed t) met.records_distinct records_first p.records b.1 in
       λ i. record { facts = p.facts; nodes = nodes i; records = records i }
 
-  -- the canonical parts and the parts themselves have the same in front
-  front_nodes_own : take front.nodes (canonical_parts fixed t).nodes ≡ take front.nodes t.nodes
-  front_nodes_own =
-      first_parts _ front.nodes (met_nodes fixed t) t.nodes nodes_first front_within.0
-      (λ i l. own_part _ (first_met.nodes_closed i (has_at _ i i (own_number i l))))
+  -- and so are the nodes and the records that come first
+  own_nodes : map (λ x. renamed_part (met_nodes fixed t) (met_records fixed t) (part_at t.nodes x))
+      (numbers_from 0 front.nodes) ≡ take front.nodes t.nodes
+  own_nodes =
+      parts_in_row _ 0 front.nodes t.nodes front_within.0
+      (λ i j l same. rw (same, zero-add) (own_part _ (first_met.nodes_closed i (has_at _ i i (own_number i l)))))
 
-  front_records_own : take front.records (canonical_parts fixed t).records ≡ take front.records t.records
-  front_records_own =
-      first_parts _ front.records (met_records fixed t) t.records records_first front_within.1
-      (λ i l. own_part _ (first_met.records_closed i (has_at _ i i (own_number i l))))
+  own_records : map (λ y. renamed_part (met_nodes fixed t) (met_records fixed t) (part_at t.records y))
+      (numbers_from 0 front.records) ≡ take front.records t.records
+  own_records =
+      parts_in_row _ 0 front.records t.records front_within.1
+      (λ i j l same. rw (same, zero-add) (own_part _ (first_met.records_closed i (has_at _ i i (own_number i l)))))
 
   front_own : front_code (canonical_front fixed t) (canonical_parts fixed t) ≡ front_code front t
   front_own =
-      ap (λ f. front_code f (canonical_parts fixed t)) front_is
-      ∙ (λ i. graph_code (front_nodes_own i) (front_records_own i))
+      let nodes : take front.nodes (canonical_parts fixed t).nodes ≡ take front.nodes t.nodes =
+      take-map _ front.nodes _ ∙ ap (map _) (taken_first front.nodes _ nodes_first) ∙ own_nodes in
+      let records : take front.records (canonical_parts fixed t).records ≡ take front.records t.records =
+      take-map _ front.records _ ∙ ap (map _) (taken_first front.records _ records_first) ∙ own_records in
+      ap (λ f. front_code f (canonical_parts fixed t)) front_is ∙ (λ i. graph_code (nodes i) (records i))
 
   -- where all come in front, the parts are canonical
   module _ (all_nodes : front.nodes ≡ length t.nodes) (all_records : front.records ≡ length t.records) where
-    all_first : (f n : ℕ) (xs : List ℕ) → Extends (numbers_from 0 f) xs → f ≡ n → length xs ≤ n → xs ≡ numbers_from 0 f
-    all_first f n xs e same short = sym (take_all f xs (omega arith)) ∙ taken_first f xs e
+    nodes_are : met_nodes fixed t ≡ numbers_from 0 front.nodes
+    nodes_are =
+        let short = met_within fixed t (walk_met fixed t h) in
+        sym (take_all front.nodes _ (omega arith)) ∙ taken_first front.nodes _ nodes_first
 
-    whole : (g : ℕ → Part) (f : ℕ) (xs : List ℕ) (parts : List Part) → f ≡ length parts → length xs ≤ length parts
-        → take f (map g xs) ≡ take f parts → map g xs ≡ parts
-    whole g f xs parts many short same =
-        sym (take_all f (map g xs) (simp length-map (omega arith))) ∙ same ∙ take_all f parts (omega arith)
-
-    held_own : (ps : List Part)
-        → AllByRecursion (IsPartMet (numbers_from 0 front.nodes) (numbers_from 0 front.records)) ps
-        → map (renamed_part (met_nodes fixed t) (met_records fixed t)) ps ≡ ps
-    held_own [] met = refl
-    held_own (p ∷ ps) met = let first = own_part p met.0 in let rest = held_own ps met.1 in cc
+    records_are : met_records fixed t ≡ numbers_from 0 front.records
+    records_are =
+        let short = met_within fixed t (walk_met fixed t h) in
+        sym (take_all front.records _ (omega arith)) ∙ taken_first front.records _ records_first
 
     canonical_own : canonical_parts fixed t ≡ t
     canonical_own =
-        let short = met_within fixed t (walk_met fixed t h) in
-        let nodes = whole _ front.nodes (met_nodes fixed t) t.nodes all_nodes short.0 front_nodes_own in
-        let records = whole _ front.records (met_records fixed t) t.records all_records short.1 front_records_own in
+        let IsMet = IsPartMet (numbers_from 0 front.nodes) (numbers_from 0 front.records) in
+        let nodes = ap (map _) nodes_are ∙ own_nodes ∙ take_all front.nodes t.nodes (omega arith) in
+        let records = ap (map _) records_are ∙ own_records ∙ take_all front.records t.records (omega arith) in
         let held =
-        held_own t.held
-        (rw (
-          ← all_first front.nodes _ _ nodes_first all_nodes short.0,
-          ← all_first front.records _ _ records_first all_records short.1,
-        ) (walk_held fixed t h)) in
+        map_fixed _ t.held
+        (All-weaker IsMet (λ p. renamed_part (met_nodes fixed t) (met_records fixed t) p ≡ p) own_part t.held
+        (All-from_recursion IsMet t.held (rw (← nodes_are, ← records_are) (walk_held fixed t h)))) in
         λ i. record { nodes = nodes i; records = records i; held = held i }
 
 -- ---- parts that were read from a code, cut at a front
 
 take_cut : (f : ℕ) (ps : List Part) → take (length (take f ps)) ps ≡ take f ps
 take_cut f ps = rw (length-take, take_min)
-
-cut_code_is : (front : Front) (s : Parts) → front_code (cut_front front s) s ≡ front_code front s
-cut_code_is front s = λ i. graph_code (take_cut front.nodes s.nodes i) (take_cut front.records s.records i)
 
 -- by own numbers all that was read comes in front
 pub own_parts_code : (s : Parts) → parts_code (all_front s) s ≡ graph_code s.nodes s.records ++ part_codes s.held
@@ -201,10 +182,10 @@ pub own_completes : (front : Front) (s other : Parts) (twins : List Part) → le
     → front_code front s ++ part_codes s.held ≡ parts_code (all_front s) s
 own_completes front s other twins many e =
     let stated = parts_code_tells front (all_front other) _ other (sym many) e in
-    let nodes : take front.nodes s.nodes ≡ s.nodes =
-    stated.1 ∙ take-length other.nodes ∙ sym (ap (λ (p : Parts). p.nodes) stated.0) in
-    let records : take front.records s.records ≡ s.records =
-    stated.2 ∙ take-length other.records ∙ sym (ap (λ (p : Parts). p.records) stated.0) in
+    let all_nodes : take front.nodes s.nodes ≡ other.nodes = cc (stated.1, take-length other.nodes) in
+    let all_records : take front.records s.records ≡ other.records = cc (stated.2, take-length other.records) in
+    let nodes = all_nodes ∙ sym (ap (λ (p : Parts). p.nodes) stated.0) in
+    let records = all_records ∙ sym (ap (λ (p : Parts). p.records) stated.0) in
     (λ i. graph_code (nodes i) (records i) ++ part_codes s.held) ∙ sym (own_parts_code s)
 
 -- canonical parts that were read are met in the order of their numbers
@@ -231,7 +212,9 @@ pub canonical_completes : (fixed : ℕ) (front : Front) (s : Parts) → AreParts
     → IsMetInOrder fixed (cut_front front s) s
     → front_code front s ++ behind_code (cut_front front s) (canonical_parts fixed s) ≡ canonical_code fixed s
 canonical_completes fixed front s range met =
-    let own = front_own fixed (cut_front front s) s range met ∙ cut_code_is front s in
+    let own =
+    front_own fixed (cut_front front s) s range met
+    ∙ (λ i. graph_code (take_cut front.nodes s.nodes i) (take_cut front.records s.records i)) in
     let is = front_is fixed (cut_front front s) s range met in
     λ i. sym own i ++ behind_code (sym is i) (canonical_parts fixed s)
 

@@ -43,34 +43,35 @@ module _ (before after : ℕ → Option Shape) (key : ℕ) (end : End) (put : Is
     kept x shape e other = put.kept x shape (λ same. other (sym e ∙ ap before same ∙ is)) e
 
     frame_at : (levels : ℕ) → ((low high x : ℕ) → (low < kp → kp < high → ⊥) → IsOrderedWithin before levels low high x
-        → IsOrderedWithin after levels low high x)
+        → IsOrderedWithin after (suc levels) low high x)
         → (low high x : ℕ) → (low < kp → kp < high → ⊥) → (shape : Option Shape) → before x ≡ shape
-        → IsNodeOrdered (IsOrderedWithin before levels) low high shape → IsOrderedWithin after (suc levels) low high x
+        → IsNodeOrdered (IsOrderedWithin before levels) low high shape
+        → IsOrderedWithin after (suc (suc levels)) low high x
     frame_at levels f low high x out None e o = absurd o
     frame_at levels f low high x out (Some (Leaf k)) e o =
-        of_node after levels low high x _ (kept x (Leaf k) e (λ same. cc)) o
+        of_node after (suc levels) low high x _ (kept x (Leaf k) e (λ same. cc)) o
     frame_at levels f low high x out (Some (Internal m l r)) e o =
         let a = apart before levels low (min m high) l o.0 in
         let b = apart before levels (max m low) high r o.1 in
-        of_node after levels low high x _
+        of_node after (suc levels) low high x _
         (kept x (Internal m l r) e (λ same. let k : kp ≡ m = cc in out (omega arith) (omega arith)))
         (f low (min m high) l (λ p q. out p (omega arith)) o.0, f (max m low) high r (λ p q. out (omega arith) q) o.1)
 
-    -- what lies apart from the parent stays in order
+    -- what lies apart from the parent stays in order, within one level more
     frame : (levels low high x : ℕ) → (low < kp → kp < high → ⊥) → IsOrderedWithin before levels low high x
-        → IsOrderedWithin after levels low high x
-    frame zero low high x out o = o
+        → IsOrderedWithin after (suc levels) low high x
+    frame zero low high x out o = absurd o
     frame (suc levels) low high x out o = frame_at levels (frame levels) low high x out (before x) refl o
 
   module _ (fresh : (x j : ℕ) → before x ≡ Some (Leaf j) → key ≢ j) where
     -- an internal node of so many levels stays in order where the key is inserted below it
-    abbrev Descends : ℕ → ℕ → Type 0
-    Descends levels fuel = (low high parent x m l r : ℕ) → before x ≡ Some (Internal m l r)
+    abbrev Descends : ℕ → Type 0
+    Descends levels = (low high parent x m l r : ℕ) → before x ≡ Some (Internal m l r)
         → IsNodeOrdered (IsOrderedWithin before levels) low high (Some (Internal m l r)) → low ≤ key → key < high
-        → end_of before key (suc fuel) parent x ≡ end → IsGrown before after end (suc (suc levels)) low high x
+        → end_of before key (suc levels) parent x ≡ end → IsGrown before after end (suc (suc levels)) low high x
 
     -- from the child on the way of the search to its parent x, which has it on the left or on the right
-    module _ (n f low high x m lo hi child : ℕ) (left right : ℕ → ℕ) (step : Descends n f)
+    module _ (n low high x m lo hi child : ℕ) (left right : ℕ → ℕ) (step : Descends n)
         (e : before x ≡ Some (Internal m (left child) (right child)))
         (inside : (low ≤ lo) × (lo ≤ m) × (m ≤ hi) × (hi ≤ high) × (low < m) × (m < high))
         (beside : lo < m → m < hi → ⊥) (from : lo ≤ key) (under : key < hi)
@@ -80,11 +81,11 @@ module _ (before after : ℕ → Option Shape) (key : ℕ) (end : End) (put : Is
         → IsOrderedWithin after (suc (suc n)) lo hi c
         → IsNodeOrdered (IsOrderedWithin after (suc (suc n))) low high (Some (Internal m (left c) (right c)))) where
       grown_by : (shape : Option Shape) → before child ≡ shape → IsNodeOrdered (IsOrderedWithin before n) lo hi shape
-          → end_of before key (suc f) x child ≡ end → IsGrown before after end (suc (suc (suc n))) low high x
+          → end_of before key (suc n) x child ≡ end → IsGrown before after end (suc (suc (suc n))) low high x
       grown_by None is o ends = absurd o
       grown_by (Some (Leaf j)) is o ends =
           let here_is : record { parent = x; leaf = child } ≡ end =
-          sym (end_at_leaf before key (suc f) x child j is) ∙ ends in
+          sym (end_at_leaf before key (suc n) x child j is) ∙ ends in
           let parent : x ≡ end.parent = ap (λ z. z.parent) here_is in
           let here = sym (ap before parent) ∙ e in
           let leaf = sym (ap before (ap (λ z. z.leaf) here_is)) ∙ is in
@@ -111,44 +112,32 @@ module _ (before after : ℕ → Option Shape) (key : ℕ) (end : End) (put : Is
                 (ordered p.0 p.1 p.2 child p.3 (omega arith) (omega arith) t.ordered);
           }
 
-    descend_by : (n f : ℕ) → Descends n f → Descends (suc n) (suc f)
-    descend_by n f step low high parent x m l r e o from under ends =
+    descend : (n : ℕ) → Descends n
+    descend zero low high parent x m l r e o from under ends = absurd o.0
+    descend (suc n) low high parent x m l r e o from under ends =
         let a = apart before (suc n) low (min m high) l o.0 in
         let b = apart before (suc n) (max m low) high r o.1 in
         let inside : (low < m) × (m < high) = (omega arith, omega arith) in
-        let on = sym (end_below before key (suc f) parent x m l r e) ∙ ends in
+        let on = sym (end_below before key (suc n) parent x m l r e) ∙ ends in
         elim (leb_tells (suc key) m) [
-          | inl t ↦ grown_by n f low high x m low (min m high) l (λ c. c) (λ c. r) step e
+          | inl t ↦ grown_by n low high x m low (min m high) l (λ c. c) (λ c. r) (descend n) e
               (omega arith, omega arith, omega arith, omega arith, omega arith, omega arith) (λ u v. omega arith)
               from (omega arith) (λ here. put.left m l r here t.1)
-              (λ kp lp rp c is u v oc. (
-                oc,
-                more_levels after (suc n) (suc (suc n)) (max m low) high r (omega arith)
-                    (frame kp lp rp is (suc n) (max m low) high r (λ p q. omega arith) o.1),
-              ))
+              (λ kp lp rp c is u v oc. (oc, frame kp lp rp is (suc n) (max m low) high r (λ p q. omega arith) o.1))
               (before l) refl o.0 (rw t.0 at on)
-          | inr t ↦ grown_by n f low high x m (max m low) high r (λ c. l) (λ c. c) step e
+          | inr t ↦ grown_by n low high x m (max m low) high r (λ c. l) (λ c. c) (descend n) e
               (omega arith, omega arith, omega arith, omega arith, omega arith, omega arith) (λ u v. omega arith)
               (omega arith) under (λ here. put.right m l r here (omega arith))
-              (λ kp lp rp c is u v oc. (
-                more_levels after (suc n) (suc (suc n)) low (min m high) l (omega arith)
-                    (frame kp lp rp is (suc n) low (min m high) l (λ p q. omega arith) o.0),
-                oc,
-              ))
+              (λ kp lp rp c is u v oc. (frame kp lp rp is (suc n) low (min m high) l (λ p q. omega arith) o.0, oc))
               (before r) refl o.1 (rw t.0 at on)
         ]
-
-    descend : (n f : ℕ) → n ≤ f → Descends n f
-    descend zero f le = λ _ _ _ _ _ _ _ _ o _ _ _. absurd o.0
-    descend (suc n) zero le = absurd (omega arith)
-    descend (suc n) (suc f) le = descend_by n f (descend n f (omega arith))
 
     -- the tree stays in order
     root_grown : (levels m l r : ℕ) → before 0 ≡ Some (Internal m l r) → IsOrderedWithin before levels 0 103 0
         → key < 103 → end_of before key levels 0 0 ≡ end → IsGrown before after end (suc levels) 0 103 0
     root_grown zero m l r e o under ends = absurd o
     root_grown (suc n) m l r e o under ends =
-        descend n n (omega arith) 0 103 0 0 m l r e (to_node before n 0 103 0 _ e o) (omega arith) under ends
+        descend n 0 103 0 0 m l r e (to_node before n 0 103 0 _ e o) (omega arith) under ends
 
 -- memories into which keys are inserted, one after the other
 module _ {Memory : Type 0} (shapes : Memory → ℕ → Option Shape) (count : Memory → ℕ) (put_in : Memory → ℕ → Memory)

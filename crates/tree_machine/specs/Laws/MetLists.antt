@@ -1,15 +1,15 @@
 -- Lists of the nodes and of the records that are met: distinct, in range, and paired where the orders are.
-use Rattle.std.proofs.Common.{◌≡◌, ℕ, zero, suc, ◌+◌, ◌-◌, ◌<◌, ◌≤◌, Bool, true, false, cond, ◌||◌, ◌&&◌}
-use Rattle.std.proofs.Common.{List, [], ◌∷◌, ◌++◌, map, length, refl, sym, ◌∙◌, ap, ap₂, arith, append-nil}
+use Rattle.std.proofs.Common.{◌≡◌, ◌≢◌, ℕ, zero, suc, ◌+◌, ◌-◌, ◌<◌, ◌≤◌, ◌⊎◌, inl, inr, Bool, true, false, ◌||◌, ◌&&◌}
+use Rattle.std.proofs.Common.{List, [], ◌∷◌, ◌++◌, map, length, refl, sym, ◌∙◌, ap, ap₂, arith, append-nil, zero-add}
 use Rattle.std.specs.Prelude.{slice_get, Option, Some, None, nat_eq, nat_lt, nat_le}
 use Rattle.std.specs.List.{AllZip, AllByRecursion, filter, list_any, zip, IsDistinct}
 use Rattle.std.specs.Option.{option_and_then}
-use Rattle.std.proofs.lemmas.Bool.{eqb-true}
-use Rattle.std.proofs.lemmas.Bool.Decides.{nat_tests}
-use Rattle.std.proofs.lemmas.List.Elements.{All-filter, All-map, All-weaker, All-from_recursion, recursion_from_All}
-use Rattle.std.proofs.lemmas.List.Elements.{filter_passes, filter-append}
+use Rattle.std.proofs.lemmas.Bool.{eqb-true, ltb-true}
+use Rattle.std.proofs.lemmas.Bool.Decides.{Decides-eqb, nat_tests}
+use Rattle.std.proofs.lemmas.List.Elements.{filter-append}
+use Rattle.std.proofs.lemmas.List.Kept.{AllPairs-filter}
 use Rattle.std.proofs.lemmas.List.{map-append}
-use Rattle.std.proofs.lemmas.Map.Keys.{IsDistinct-cons, IsDistinct-head, IsDistinct-tail}
+use Rattle.std.proofs.lemmas.Map.Made.{AllPairs-from_IsDistinct, IsDistinct-from_AllPairs}
 use Rattle.std.proofs.lemmas.Map.Views.{any-filter_same}
 use Rattle.std.proofs.lemmas.Option.{slice_get_within}
 use Rattle.sched_program.specs.Laws.Exact.{both}
@@ -17,10 +17,10 @@ use Rattle.tree_machine.specs.Cells.{IsPairedOrNone, place_in}
 use Rattle.tree_machine.specs.Pairing.{IsOneToOne, IsAmong}
 use Rattle.tree_machine.specs.Graphs.{numbers_from}
 use Rattle.tree_machine.specs.Canonical.{nodes_met, records_met, as_cells}
-use Rattle.tree_machine.specs.Laws.CellLists.{distinct_none, mapped_distinct, rec_weaker}
-use Rattle.tree_machine.specs.Laws.CellOrder.{Has, HasAll}
+use Rattle.tree_machine.specs.Laws.CellLists.{mapped_distinct, distinct_in_row}
+use Rattle.tree_machine.specs.Laws.CellOrder.{Has, HasAll, all_from_has}
 use Rattle.tree_machine.specs.Laws.CellSteps.{same_tests}
-use Rattle.tree_machine.specs.Laws.CellPlaces.{among_at, at_among, place_at, place_from_has, get_place}
+use Rattle.tree_machine.specs.Laws.CellPlaces.{among_at, at_among, place_from_has, get_place, zip_one}
 
 -- ---- each number with its place
 
@@ -29,33 +29,25 @@ number_at a zero i l = absurd (omega arith)
 number_at a (suc n) zero l = ap Some (omega arith)
 number_at a (suc n) (suc i) l = number_at (suc a) n i (omega arith) ∙ ap Some (omega arith)
 
+-- a number below n is at its own place among them
+pub own_number : {n : ℕ} (x : ℕ) → x < n → slice_get (numbers_from 0 n) x ≡ Some x
+own_number {n} x l = number_at 0 n x l ∙ ap Some (zero-add x)
+
 -- the numbers of a list, each with its place
 abbrev pub places : List ℕ → List (ℕ × ℕ)
 places xs = zip xs (numbers_from 0 (length xs))
 
 pub among_places : (xs : List ℕ) (x k : ℕ) → slice_get xs k ≡ Some x → IsAmong (places xs) x k
-among_places xs x k h =
-    among_at xs (numbers_from 0 (length xs)) k x k h
-    (number_at 0 (length xs) k (slice_get_within xs k x h) ∙ ap Some (omega arith))
+among_places xs x k h = among_at xs _ k x k h (own_number k (slice_get_within xs k x h))
 
 pub places_among : (xs : List ℕ) (x k : ℕ) → IsAmong (places xs) x k → slice_get xs k ≡ Some x
 places_among xs x k h =
     let p = at_among xs (numbers_from 0 (length xs)) x k h in
-    let at : slice_get (numbers_from 0 (length xs)) p.0 ≡ Some (0 + p.0) =
-    number_at 0 (length xs) p.0 (slice_get_within xs p.0 x p.1) in
-    let is : 0 + p.0 ≡ k = cc (at, p.2) in
-    let same : p.0 ≡ k = omega arith in
+    let same : p.0 ≡ k = cc (own_number p.0 (slice_get_within xs p.0 x p.1), p.2) in
     rw (← same) p.1
 
 pub places_one : (xs : List ℕ) → IsDistinct nat_eq xs → IsOneToOne (IsAmong (places xs))
-places_one xs d x y a b h g =
-    let at = places_among xs x y h in
-    let bt = places_among xs a b g in
-    let px : place_in xs x ≡ Some y = place_at xs d y x at in
-    let pa : place_in xs a ≡ Some b = place_at xs d b a bt in (
-      λ e. cc (px, pa, e),
-      λ e. cc (at, bt, e),
-    )
+places_one xs d = zip_one xs _ d (distinct_in_row 0 (length xs)).distinct
 
 -- names that are all in a list are paired with their places
 pub refs_placed : (xs : List ℕ) (refs : List (Option ℕ)) → HasAll xs refs
@@ -71,15 +63,9 @@ refs_placed xs (Some x ∷ refs) h =
 -- ---- what a filter keeps
 
 pub filter_distinct : (p : ℕ → Bool) (xs : List ℕ) → IsDistinct nat_eq xs → IsDistinct nat_eq (filter p xs)
-filter_distinct p [] d = distinct_none
-filter_distinct p (x ∷ xs) d = go (p x) (filter_distinct p xs (IsDistinct-tail nat_eq x xs d))
-  where
-    go : (b : Bool) → IsDistinct nat_eq (filter p xs) → IsDistinct nat_eq (cond b (x ∷ filter p xs) (filter p xs))
-    go true rest =
-        IsDistinct-cons nat_eq x (filter p xs)
-        (recursion_from_All _ _
-        (All-filter p (λ y. nat_eq x y ≡ false) xs (All-from_recursion _ xs (IsDistinct-head nat_eq x xs d)))) rest
-    go false rest = rest
+filter_distinct p xs d =
+    IsDistinct-from_AllPairs Decides-eqb _
+    (AllPairs-filter (λ x y. x ≢ y) p xs (AllPairs-from_IsDistinct Decides-eqb xs d))
 
 filter_any : (p : ℕ → Bool) (xs : List ℕ) (x : ℕ)
     → list_any (nat_eq x) (filter p xs) ≡ (p x && list_any (nat_eq x) xs)
@@ -91,45 +77,38 @@ filter_has p xs x h = let r = both (p x) (list_any (nat_eq x) xs) (sym (filter_a
 pub has_filter : (p : ℕ → Bool) (xs : List ℕ) (x : ℕ) → Has xs x → p x ≡ true → Has (filter p xs) x
 has_filter p xs x h t = filter_any p xs x ∙ ap₂ ◌&&◌ t h
 
-pub filter_all : (p : ℕ → Bool) (xs : List ℕ) → AllByRecursion (λ x. p x ≡ true) xs → filter p xs ≡ xs
-filter_all p [] h = refl
-filter_all p (x ∷ xs) h = rw (h.0, filter_all p xs h.1) refl
-
 pub filter_none : (p : ℕ → Bool) (xs : List ℕ) → AllByRecursion (λ x. p x ≡ false) xs → filter p xs ≡ []
 filter_none p [] h = refl
 filter_none p (x ∷ xs) h = rw h.0 (filter_none p xs h.1)
 
--- tests that agree on pairs keep pairs
-pub filter_zip : (Q : ℕ → ℕ → Type 0) (p q : ℕ → Bool) → ((x y : ℕ) → Q x y → p x ≡ q y) → (xs ys : List ℕ)
-    → AllZip Q xs ys → AllZip (λ x y. Q x y × (p x ≡ true)) (filter p xs) (filter q ys)
-filter_zip Q p q h [] [] z = tt
-filter_zip Q p q h [] (y ∷ ys) z = absurd z
-filter_zip Q p q h (x ∷ xs) [] z = absurd z
-filter_zip Q p q h (x ∷ xs) (y ∷ ys) z =
-    go (p x) (q y) refl (sym (h x y z.0)) (filter_zip Q p q h xs ys z.1)
-  where
-    go : (b c : Bool) → p x ≡ b → c ≡ p x → AllZip (λ x y. Q x y × (p x ≡ true)) (filter p xs) (filter q ys)
-        → AllZip (λ x y. Q x y × (p x ≡ true)) (cond b (x ∷ filter p xs) (filter p xs))
-        (cond c (y ∷ filter q ys) (filter q ys))
-    go true true e f rest = ((z.0, e), rest)
-    go true false e f rest = cc
-    go false true e f rest = cc
-    go false false e f rest = rest
+-- both numbers pass and R pairs them, or neither passes
+abbrev pub PassAlike : (ℕ → Bool) → (ℕ → Bool) → (ℕ → ℕ → Type 0) → ℕ → ℕ → Type 0
+PassAlike p q R x y = ((p x ≡ true) × (q y ≡ true) × R x y) ⊎ ((p x ≡ false) × (q y ≡ false))
+
+pub filter_zip : (Q R : ℕ → ℕ → Type 0) (p q : ℕ → Bool) → ((x y : ℕ) → Q x y → PassAlike p q R x y)
+    → (xs ys : List ℕ) → AllZip Q xs ys → AllZip R (filter p xs) (filter q ys)
+filter_zip Q R p q h [] [] z = tt
+filter_zip Q R p q h (x ∷ xs) (y ∷ ys) z =
+    let rest = filter_zip Q R p q h xs ys z.1 in
+    elim (h x y z.0) [ inl k ↦ rw (k.0, k.1) (k.2, rest) | inr k ↦ rw (k.0, k.1) rest ]
+filter_zip Q R p q h _ _ z = absurd z
 
 pub map_zip : {A B C D : Type 0} (P : C → D → Type 0) (f : A → C) (g : B → D) (xs : List A) (ys : List B)
     → AllZip (λ x y. P (f x) (g y)) xs ys → AllZip P (map f xs) (map g ys)
 map_zip P f g [] [] z = tt
-map_zip P f g [] (y ∷ ys) z = absurd z
-map_zip P f g (x ∷ xs) [] z = absurd z
 map_zip P f g (x ∷ xs) (y ∷ ys) z = (z.0, map_zip P f g xs ys z.1)
+map_zip P f g _ _ z = absurd z
 
--- ---- numbers behind n
+-- ---- numbers of nodes, and of records behind n nodes
+
+abbrev pub is_node : ℕ → ℕ → Bool
+is_node n x = nat_lt x n
+
+abbrev pub is_record : ℕ → ℕ → ℕ → Bool
+is_record n r x = nat_le n x && nat_lt x (n + r)
 
 pub test_node : (n x : ℕ) → x < n → nat_lt x n ≡ true
 test_node n x l = grind (arith, nat_tests)
-
-pub node_test : (n x : ℕ) → nat_lt x n ≡ true → x < n
-node_test n x e = grind (arith, nat_tests)
 
 pub test_other : (n x : ℕ) → n ≤ x → nat_lt x n ≡ false
 test_other n x l = grind (arith, nat_tests)
@@ -146,10 +125,6 @@ test_before n r x l = grind (arith, nat_tests)
 pub test_behind : (n r x : ℕ) → n + r ≤ x → (nat_le n x && nat_lt x (n + r)) ≡ false
 test_behind n r x l = grind (arith, nat_tests)
 
-lowered_distinct : (n : ℕ) (xs : List ℕ) → AllByRecursion (λ x. n ≤ x) xs → IsDistinct nat_eq xs
-    → IsDistinct nat_eq (map (λ x. x - n) xs)
-lowered_distinct n = mapped_distinct (λ x. n ≤ x) (λ x. x - n) (λ x y p q e. omega (arith, e, p, q))
-
 lowered_any : (n : ℕ) (xs : List ℕ) (y : ℕ) → AllByRecursion (λ x. n ≤ x) xs
     → list_any (nat_eq y) (map (λ x. x - n) xs) ≡ list_any (nat_eq (n + y)) xs
 lowered_any n [] y a = refl
@@ -159,91 +134,69 @@ lowered_any n (x ∷ xs) y a = λ i. same_tests y (n + y) (x - n) x
 -- ---- the nodes and the records that are met
 
 module _ (n : ℕ) (order : List ℕ) where
-  pub nodes_below : AllByRecursion (λ x. x < n) (nodes_met n order)
-  nodes_below =
-      recursion_from_All _ _
-      (All-weaker (λ x. nat_lt x n ≡ true) (λ x. x < n) (λ x e. node_test n x e) _
-      (filter_passes (λ x. nat_lt x n) order))
-
-  pub nodes_distinct : IsDistinct nat_eq order → IsDistinct nat_eq (nodes_met n order)
-  nodes_distinct d = filter_distinct (λ x. nat_lt x n) order d
-
   pub node_has : (x : ℕ) → Has (nodes_met n order) x → Has order x × (x < n)
-  node_has x h = let r = filter_has (λ x. nat_lt x n) order x h in (r.0, node_test n x r.1)
+  node_has x h = let r = filter_has (is_node n) order x h in (r.0, ltb-true x n r.1)
 
   pub has_node : (x : ℕ) → Has order x → x < n → Has (nodes_met n order) x
-  has_node x h l = has_filter (λ x. nat_lt x n) order x h (test_node n x l)
+  has_node x h l = has_filter (is_node n) order x h (test_node n x l)
+
+  pub nodes_below : AllByRecursion (λ x. x < n) (nodes_met n order)
+  nodes_below = all_from_has _ _ (λ x h. (node_has x h).1)
+
+  pub nodes_distinct : IsDistinct nat_eq order → IsDistinct nat_eq (nodes_met n order)
+  nodes_distinct d = filter_distinct (is_node n) order d
 
   module _ (r : ℕ) where
-    kept_behind : AllByRecursion (λ x. n ≤ x) (filter (λ x. nat_le n x && nat_lt x (n + r)) order)
-    kept_behind =
-        recursion_from_All _ _
-        (All-weaker (λ x. (nat_le n x && nat_lt x (n + r)) ≡ true) (λ x. n ≤ x) (λ x e. (record_test n r x e).0) _
-        (filter_passes (λ x. nat_le n x && nat_lt x (n + r)) order))
-
-    pub records_below : AllByRecursion (λ y. y < r) (records_met n r order)
-    records_below =
-        recursion_from_All _ _
-        (All-map (λ y. y < r) (λ x. x - n) _
-        (All-weaker (λ x. (nat_le n x && nat_lt x (n + r)) ≡ true) (λ x. x - n < r) (λ x e.
-        let k = record_test n r x e in omega arith) _
-        (filter_passes (λ x. nat_le n x && nat_lt x (n + r)) order)))
-
-    pub records_distinct : IsDistinct nat_eq order → IsDistinct nat_eq (records_met n r order)
-    records_distinct d =
-        lowered_distinct n _ kept_behind (filter_distinct (λ x. nat_le n x && nat_lt x (n + r)) order d)
+    kept_behind : AllByRecursion (λ x. n ≤ x) (filter (is_record n r) order)
+    kept_behind = all_from_has _ _ (λ x h. (record_test n r x (filter_has _ order x h).1).0)
 
     pub record_has : (y : ℕ) → Has (records_met n r order) y → Has order (n + y) × (y < r)
     record_has y h =
-        let k = filter_has (λ x. nat_le n x && nat_lt x (n + r)) order (n + y)
-        (sym (lowered_any n _ y kept_behind) ∙ h) in
+        let k = filter_has (is_record n r) order (n + y) (sym (lowered_any n _ y kept_behind) ∙ h) in
         let l = record_test n r (n + y) k.1 in
         (k.0, omega arith)
 
     pub has_record : (y : ℕ) → Has order (n + y) → y < r → Has (records_met n r order) y
     has_record y h l =
         lowered_any n _ y kept_behind
-        ∙ has_filter (λ x. nat_le n x && nat_lt x (n + r)) order (n + y) h
+        ∙ has_filter (is_record n r) order (n + y) h
         (test_record n r (n + y) (omega arith) (omega arith))
+
+    pub records_below : AllByRecursion (λ y. y < r) (records_met n r order)
+    records_below = all_from_has _ _ (λ y h. (record_has y h).1)
+
+    pub records_distinct : IsDistinct nat_eq order → IsDistinct nat_eq (records_met n r order)
+    records_distinct d =
+        mapped_distinct (λ x. n ≤ x) (λ x. x - n) (λ x y p q e. omega (arith, e, p, q)) _ kept_behind
+        (filter_distinct _ order d)
 
 -- ---- nodes and records as cells
 
 module _ (n r : ℕ) where
+  nodes_of_nodes : (xs : List ℕ) → AllByRecursion (λ x. x < n) xs → nodes_met n xs ≡ xs
+  nodes_of_nodes [] h = refl
+  nodes_of_nodes (x ∷ xs) h = rw (test_node n x h.0, nodes_of_nodes xs h.1) refl
+
   nodes_of_records : (ys : List ℕ) → nodes_met n (map (λ y. n + y) ys) ≡ []
-  nodes_of_records ys = filter_none (λ x. nat_lt x n) (map (λ y. n + y) ys) (go ys)
-    where
-      go : (ys : List ℕ) → AllByRecursion (λ x. nat_lt x n ≡ false) (map (λ y. n + y) ys)
-      go [] = tt
-      go (y ∷ ys) = (test_other n (n + y) (omega arith), go ys)
+  nodes_of_records [] = refl
+  nodes_of_records (y ∷ ys) = rw (test_other n (n + y) (omega arith)) (nodes_of_records ys)
 
   records_of_nodes : (xs : List ℕ) → AllByRecursion (λ x. x < n) xs → records_met n r xs ≡ []
-  records_of_nodes xs h =
-      ap (map (λ x. x - n))
-      (filter_none (λ x. nat_le n x && nat_lt x (n + r)) xs
-      (rec_weaker (λ x. x < n) (λ x. (nat_le n x && nat_lt x (n + r)) ≡ false) (λ x l. test_before n r x l) xs h))
+  records_of_nodes [] h = refl
+  records_of_nodes (x ∷ xs) h = rw (test_before n r x h.0) (records_of_nodes xs h.1)
 
   records_of_records : (ys : List ℕ) → AllByRecursion (λ y. y < r) ys → records_met n r (map (λ y. n + y) ys) ≡ ys
-  records_of_records ys h =
-      ap (map (λ x. x - n)) (filter_all (λ x. nat_le n x && nat_lt x (n + r)) (map (λ y. n + y) ys) (go ys h)) ∙ back ys
-    where
-      go : (ys : List ℕ) → AllByRecursion (λ y. y < r) ys
-          → AllByRecursion (λ x. (nat_le n x && nat_lt x (n + r)) ≡ true) (map (λ y. n + y) ys)
-      go [] h = tt
-      go (y ∷ ys) h =
-          let l : y < r = h.0 in (test_record n r (n + y) (omega arith) (omega arith), go ys h.1)
-
-      back : (ys : List ℕ) → map (λ x. x - n) (map (λ y. n + y) ys) ≡ ys
-      back [] = refl
-      back (y ∷ ys) = let first : n + y - n ≡ y = omega arith in cc (back ys)
+  records_of_records [] h = refl
+  records_of_records (y ∷ ys) h =
+      let l : y < r = h.0 in
+      let first : n + y - n ≡ y = omega arith in
+      rw (test_record n r (n + y) (omega arith) (omega arith)) (cc (first, records_of_records ys h.1))
 
   -- in front of other cells
   pub nodes_first : (nodes records zs : List ℕ) → AllByRecursion (λ x. x < n) nodes
       → nodes_met n (as_cells n nodes records ++ zs) ≡ nodes ++ nodes_met n zs
   nodes_first nodes records zs h =
-      let all =
-      filter_all (λ x. nat_lt x n) nodes
-      (rec_weaker (λ x. x < n) (λ x. nat_lt x n ≡ true) (λ x l. test_node n x l) nodes h) in
-      simp (filter-append, nodes_of_records records, append-nil, all) refl
+      simp (filter-append, nodes_of_records records, append-nil, nodes_of_nodes nodes h) refl
 
   pub records_first : (nodes records zs : List ℕ) → AllByRecursion (λ x. x < n) nodes
       → AllByRecursion (λ y. y < r) records

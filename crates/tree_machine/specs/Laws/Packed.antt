@@ -1,12 +1,11 @@
 -- Replies and notes are read back from their numbers.
-use Rattle.std.proofs.Common.{◌≡◌, ℕ, zero, suc, ◌+◌, ◌*◌, ◌/◌, ◌%◌, ◌^◌, ◌<◌, ◌≤◌, ◌⊎◌, inl, inr, Bool, true}
-use Rattle.std.proofs.Common.{false, List, [], ◌∷◌, ◌++◌, length, refl, sym, ap, arith, eq-eqb}
-use Rattle.std.proofs.Common.{length-append}
+use Rattle.std.proofs.Common.{◌≡◌, ℕ, zero, suc, ◌+◌, ◌*◌, ◌/◌, ◌%◌, ◌^◌, ◌<◌, ◌≤◌, inl, inr, Bool, true, false, List}
+use Rattle.std.proofs.Common.{[], ◌∷◌, ◌++◌, length, refl, ap, arith, eq-eqb, length-append}
 use Rattle.std.specs.Prelude.{nat_eq, nat_le, slice_get, Some, if◌then◌else◌}
 use Rattle.std.specs.Int.{bit_at}
 use Rattle.std.proofs.Math.Nat.{two-pow-succ}
 use Rattle.std.proofs.Math.Pow.{pow_mono}
-use Rattle.std.proofs.lemmas.Bool.Decides.{leb_tells, eqb_tells}
+use Rattle.std.proofs.lemmas.Bool.Decides.{leb_tells, nat_tests}
 use Rattle.std.proofs.lemmas.Nat.{pow_pos}
 use Rattle.std.proofs.lemmas.Nat.Bits.{bit_at_lowest, bit_at-suc}
 use Rattle.tree_machine.specs.Packed.{replies_number, digits_of, replies_in}
@@ -16,14 +15,7 @@ abbrev digit_of : Bool → ℕ
 digit_of reply = if reply then 1 else 0
 
 digit_is : (n : ℕ) → (if nat_eq (n % 2) 1 then 1 else 0) ≡ n % 2
-digit_is n =
-    elim (eqb_tells (n % 2) 1) [
-      | inl t ↦ rw t.0 (sym t.1)
-      | inr t ↦ rw t.0 (let odd : n % 2 ≡ 1 → ⊥ = t.1 in omega arith)
-    ]
-
-doubled : (k : ℕ) → 2 ^ suc k ≡ 2 ^ k + 2 ^ k
-doubled k = two-pow-succ k
+digit_is n = grind (arith, nat_tests)
 
 pub replies_least : (replies : List Bool) → 0 < replies_number replies
 replies_least [] = omega arith
@@ -40,7 +32,7 @@ number_of_digits (suc most) n least below =
       | inr t ↦
           let high : 1 < n = t.1 in
           let rest =
-          number_of_digits most (n / 2) (omega arith) (omega (arith, doubled most)) in
+          number_of_digits most (n / 2) (omega arith) (omega (arith, two-pow-succ most)) in
           rw (t.0, digit_is n, rest) (omega arith)
     ]
 
@@ -53,24 +45,21 @@ half_back true n = omega arith
 half_back false n = omega arith
 
 not_one : (reply : Bool) (n : ℕ) → 0 < n → nat_le (digit_of reply + 2 * n) 1 ≡ false
-not_one reply n least =
-    elim (leb_tells (digit_of reply + 2 * n) 1) [ inl t ↦ absurd (omega (arith, t.1)) | inr t ↦ t.0 ]
+not_one reply n least = grind (arith, nat_tests)
 
--- the digits of the number of some replies are these
 pub digits_of_number : (most : ℕ) (replies : List Bool) → length replies ≤ most
     → digits_of most (replies_number replies) ≡ replies
 digits_of_number zero [] bounded = refl
 digits_of_number zero (reply ∷ replies) bounded = absurd (omega arith)
 digits_of_number (suc most) [] bounded = refl
 digits_of_number (suc most) (reply ∷ replies) bounded =
-    let rest : digits_of most (replies_number replies) ≡ replies =
-    digits_of_number most replies (omega arith) in
+    let n = replies_number replies in
     rw (
-      not_one reply (replies_number replies) (replies_least replies),
-      digit_back reply (replies_number replies),
-      half_back reply (replies_number replies),
-      rest,
-    ) refl
+      not_one reply n (replies_least replies),
+      digit_back reply n,
+      half_back reply n,
+      digits_of_number most replies (omega arith),
+    )
 
 -- ---- how many there are, and each of them
 
@@ -81,29 +70,28 @@ digits_length (suc most) zero n bounded reaches below =
     elim (leb_tells n 1) [ inl t ↦ rw t.0 refl | inr t ↦ absurd (omega (arith, t.1)) ]
 digits_length (suc most) (suc k) n bounded reaches below =
     elim (leb_tells n 1) [
-      | inl t ↦ absurd (omega (arith, doubled k, pow_pos k, t.1))
+      | inl t ↦ absurd (omega (arith, two-pow-succ k, pow_pos k, t.1))
       | inr t ↦
           rw t.0 (ap suc
-          (digits_length most k (n / 2) (omega arith) (omega (arith, doubled k)) (omega (arith, doubled k))))
+          (digits_length most k (n / 2) (omega arith) (omega (arith, two-pow-succ k)) (omega (arith, two-pow-succ k))))
     ]
 
 -- each digit of a number is one of its bits
 pub digit_at : (most n i : ℕ) → i < length (digits_of most n)
     → slice_get (digits_of most n) i ≡ Some (nat_eq (bit_at n i) 1)
 digit_at zero n i within = absurd (omega arith)
-digit_at (suc most) n i within = go (λ k w. digit_at most (n / 2) k w) i (leb_tells n 1) within
-  where
-    go : ((k : ℕ) → k < length (digits_of most (n / 2))
-        → slice_get (digits_of most (n / 2)) k ≡ Some (nat_eq (bit_at (n / 2) k) 1))
-        → (i : ℕ) → ((nat_le n 1 ≡ true) × (n ≤ 1)) ⊎ ((nat_le n 1 ≡ false) × (1 < n))
-        → i < length (digits_of (suc most) n)
-        → slice_get (digits_of (suc most) n) i ≡ Some (nat_eq (bit_at n i) 1)
-    go rests i (inl t) within =
-        let none : i < 0 = rw t.0 at within in absurd (omega arith)
-    go rests zero (inr t) within = rw (t.0, bit_at_lowest n) refl
-    go rests (suc i) (inr t) within =
-        let rest : suc i < suc (length (digits_of most (n / 2))) = rw t.0 at within in
-        rw (t.0, bit_at-suc n i) (rests i (omega arith))
+digit_at (suc most) n zero within =
+    elim (leb_tells n 1) [
+      | inl t ↦ let none : 0 < 0 = rw t.0 at within in absurd (omega arith)
+      | inr t ↦ rw (t.0, bit_at_lowest n) refl
+    ]
+digit_at (suc most) n (suc i) within =
+    elim (leb_tells n 1) [
+      | inl t ↦ let none : suc i < 0 = rw t.0 at within in absurd (omega arith)
+      | inr t ↦
+          let rest : suc i < suc (length (digits_of most (n / 2))) = rw t.0 at within in
+          rw (t.0, bit_at-suc n i) (digit_at most (n / 2) i (omega arith))
+    ]
 
 -- ---- one more reply
 
@@ -113,14 +101,14 @@ pub one_reply_more : (replies : List Bool) (reply : Bool)
 one_reply_more [] true = refl
 one_reply_more [] false = refl
 one_reply_more (first ∷ replies) true =
-    omega (arith, one_reply_more replies true, doubled (length replies))
+    omega (arith, one_reply_more replies true, two-pow-succ (length replies))
 one_reply_more (first ∷ replies) false =
-    omega (arith, one_reply_more replies false, doubled (length replies))
+    omega (arith, one_reply_more replies false, two-pow-succ (length replies))
 
 pub replies_below : (replies : List Bool) → replies_number replies < 2 * 2 ^ length replies
 replies_below [] = omega arith
-replies_below (true ∷ replies) = omega (arith, replies_below replies, doubled (length replies))
-replies_below (false ∷ replies) = omega (arith, replies_below replies, doubled (length replies))
+replies_below (true ∷ replies) = omega (arith, replies_below replies, two-pow-succ (length replies))
+replies_below (false ∷ replies) = omega (arith, replies_below replies, two-pow-succ (length replies))
 
 -- ---- six replies at most
 
@@ -148,34 +136,14 @@ power_bounded k n reaches below =
       | inr t ↦ let power : 2 ^ 7 ≤ 2 ^ k = pow_mono t.1 in absurd (omega arith)
     ]
 
--- a reply is appended to those of a number
-pub reply_pushed : (n : ℕ) (reply : Bool) → 0 < n → n < 128 → length (replies_in n) < 6
-    → replies_in (n + (if reply then 2 * 2 ^ length (replies_in n) else 2 ^ length (replies_in n)))
-    ≡ replies_in n ++ reply ∷ []
-reply_pushed n reply least below bounded =
-    let replies = replies_in n in
-    let more = rw (replies_back n least below) at (one_reply_more replies reply) in
-    rw (← more) (replies_of_number (replies ++ reply ∷ []) (omega (arith, length-append replies (reply ∷ []))))
-
--- and it is one of replies
-pub pushed_below : (n : ℕ) (reply : Bool) → 0 < n → n < 128 → length (replies_in n) < 6
-    → n + (if reply then 2 * 2 ^ length (replies_in n) else 2 ^ length (replies_in n)) < 128
-pushed_below n reply least below bounded =
-    let replies = replies_in n in
-    let is_number : replies_number replies ≡ n = replies_back n least below in
-    let more = one_reply_more replies reply in
-    let most : replies_number (replies ++ reply ∷ []) < 2 * 2 ^ length (replies ++ reply ∷ []) =
-    replies_below (replies ++ reply ∷ []) in
-    let longer : length (replies ++ reply ∷ []) ≤ 6 = omega (arith, length-append replies (reply ∷ [])) in
-    let power : 2 ^ length (replies ++ reply ∷ []) ≤ 64 = pow_mono longer in
-    omega (arith, more, most, power, is_number)
-
--- both, where what is added is given
+-- a reply is appended to those of a number, and the sum is that of replies
 pub pushed : (n more count : ℕ) (reply : Bool) (old : List Bool) → replies_in n ≡ old → 0 < n → n < 128
     → length old < 6 → count ≡ length old → more ≡ (if reply then 2 * 2 ^ count else 2 ^ count)
     → (n + more < 128) × (replies_in (n + more) ≡ old ++ reply ∷ [])
 pushed n more count reply old is least below bounded counted added =
-    let room : length (replies_in n) < 6 = rw is bounded in (
-      rw (added, counted, ← is) (pushed_below n reply least below room),
-      rw (added, counted, ← is) (reply_pushed n reply least below room),
-    )
+    let now = old ++ reply ∷ [] in
+    let number : replies_number now ≡ n + more =
+    cc (one_reply_more old reply, replies_back n least below, is, counted, added) in
+    let longer : length now ≤ 6 = omega (arith, length-append old (reply ∷ [])) in
+    let power : 2 ^ length now ≤ 64 = pow_mono longer in
+    (omega (arith, replies_below now, number), rw (← number) (replies_of_number now longer))

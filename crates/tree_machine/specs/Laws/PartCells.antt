@@ -1,12 +1,12 @@
 -- Parts as cells: nodes, behind them records, and behind these what is held; paired parts are paired cells.
-use Rattle.std.proofs.Common.{◌≡◌, ℕ, ◌+◌, ◌<◌, ◌≤◌, ◌⊎◌, List, ◌++◌, map, length, refl}
-use Rattle.std.proofs.Common.{sym, ◌∙◌, ap, subst, inl, inr, arith, length-append}
+use Rattle.std.proofs.Common.{◌≡◌, ℕ, ◌+◌, ◌-◌, ◌<◌, ◌≤◌, ◌⊎◌, List, ◌++◌, map, length}
+use Rattle.std.proofs.Common.{sym, ◌∙◌, ap, inl, inr, arith, length-append}
 use Rattle.std.specs.Prelude.{Option, Some, None, IfSome, nat_eq}
 use Rattle.std.specs.List.{AllZip, All, IsDistinct}
 use Rattle.std.specs.Option.{option_map}
 use Rattle.std.proofs.lemmas.List.{length-map}
 use Rattle.std.proofs.lemmas.List.Elements.{All-append, All-get_or, All-map, All-weaker, AllZip-get_or, length_all_zip}
-use Rattle.std.proofs.lemmas.Option.{slice_get-get_or, slice_get-map, unwrap_or-slice_get}
+use Rattle.std.proofs.lemmas.Option.{IfSome_then, slice_get-get_or, slice_get-map, unwrap_or-slice_get}
 use Rattle.tree_machine.specs.Cells.{Content, content_at, IsPairedOrNone, IsPairing, IsRooted}
 use Rattle.tree_machine.specs.Pairing.{IsOneToOne}
 use Rattle.tree_machine.specs.Parts.{Part, Parts, part_at, ArePartsPaired, IsPartsPairing, IsPartBelow, ArePartsInRange}
@@ -65,14 +65,10 @@ RefsBelow n c = All (λ r. IfSome r (λ x. x < n)) c.refs
 part_refs_below : (n r m : ℕ) → n + r ≤ m → (p : Part) → IsPartBelow n r p → RefsBelow m (part_cell n p)
 part_refs_below n r m l p h =
     All-append (λ x. IfSome x (λ y. y < m)) p.nodes _
-    (All-weaker _ _ wider p.nodes h.nodes)
+    (All-weaker _ _ (λ x k. IfSome_then x {P = λ y. y < n} {Q = λ y. y < m} k (λ y less. omega arith)) p.nodes h.nodes)
     (All-map (λ x. IfSome x (λ y. y < m)) (option_map (λ x. n + x)) p.records
     (All-weaker _ _ raised p.records h.records))
   where
-    wider : (x : Option ℕ) → IfSome x (λ y. y < n) → IfSome x (λ y. y < m)
-    wider None k = tt
-    wider (Some y) k = omega arith
-
     raised : (x : Option ℕ) → IfSome x (λ y. y < r) → IfSome (option_map (λ x. n + x) x) (λ y. y < m)
     raised None k = tt
     raised (Some y) k = omega arith
@@ -120,16 +116,14 @@ pub record AreCellsPaired (P : ℕ → ℕ → Type 0) (c d : Content) : Type 0 
 or_none_map : (P Q : ℕ → ℕ → Type 0) (f g : ℕ → ℕ) → ((x y : ℕ) → P x y → Q (f x) (g y)) → (r s : Option ℕ)
     → IsPairedOrNone P r s → IsPairedOrNone Q (option_map f r) (option_map g s)
 or_none_map P Q f g h None None p = tt
-or_none_map P Q f g h None (Some y) p = absurd p
-or_none_map P Q f g h (Some x) None p = absurd p
 or_none_map P Q f g h (Some x) (Some y) p = h x y p
+or_none_map P Q f g h _ _ p = absurd p
 
 or_none_weaker : (P Q : ℕ → ℕ → Type 0) → ((x y : ℕ) → P x y → Q x y) → (r s : Option ℕ) → IsPairedOrNone P r s
     → IsPairedOrNone Q r s
 or_none_weaker P Q h None None p = tt
-or_none_weaker P Q h None (Some y) p = absurd p
-or_none_weaker P Q h (Some x) None p = absurd p
 or_none_weaker P Q h (Some x) (Some y) p = h x y p
+or_none_weaker P Q h _ _ p = absurd p
 
 cells_from_parts : (P R Q : ℕ → ℕ → Type 0) (n m : ℕ) → ((x y : ℕ) → P x y → Q x y)
     → ((x y : ℕ) → R x y → Q (n + x) (m + y)) → (a b : Part) → ArePartsPaired P R a b
@@ -152,64 +146,72 @@ part_from_zip : (Q : Part → Part → Type 0) (ps qs : List Part) → AllZip Q 
 part_from_zip Q ps qs z i l =
     rw (unwrap_or-slice_get ps i no_part, unwrap_or-slice_get qs i no_part) (AllZip-get_or Q ps qs i _ _ z l)
 
+-- P pairs numbers below n with numbers below m, and Q pairs those from there on
+abbrev pub BelowOrBehind : ℕ → ℕ → (ℕ → ℕ → Type 0) → (ℕ → ℕ → Type 0) → ℕ → ℕ → Type 0
+BelowOrBehind n m P Q x y = ((x < n) × (y < m) × P x y) ⊎ ((n ≤ x) × (m ≤ y) × Q (x - n) (y - m))
+
+below_or_behind_one : (n m : ℕ) (P Q : ℕ → ℕ → Type 0) → IsOneToOne P → IsOneToOne Q
+    → IsOneToOne (BelowOrBehind n m P Q)
+below_or_behind_one n m P Q one then x y v w (inl p) (inl q) = one x y v w p.2 q.2
+below_or_behind_one n m P Q one then x y v w (inr p) (inr q) =
+    let both = then _ _ _ _ p.2 q.2 in
+    (λ e. omega (arith, both.0 (omega arith)), λ e. omega (arith, both.1 (omega arith)))
+below_or_behind_one n m P Q one then x y v w (inl p) (inr q) = (λ e. omega arith, λ e. omega arith)
+below_or_behind_one n m P Q one then x y v w (inr p) (inl q) = (λ e. omega arith, λ e. omega arith)
+
 module _ (P R : ℕ → ℕ → Type 0) (s t : Parts) where
-  -- paired nodes, paired records, or what is held at one place
+  -- paired records, or what is held at one place
+  abbrev pub PairedBehind : ℕ → ℕ → Type 0
+  PairedBehind = BelowOrBehind (length s.records) (length t.records) R (λ i j. (i ≡ j) × (i < length s.held))
+
+  -- paired nodes, and these behind them
   abbrev pub Paired : ℕ → ℕ → Type 0
-  Paired x y =
-      P x y
-      ⊎ ((a : ℕ) × (b : ℕ) × R a b × (length s.nodes + a ≡ x) × (length t.nodes + b ≡ y))
-      ⊎ ((i : ℕ) × (i < length s.held) × (length s.nodes + length s.records + i ≡ x)
-      × (length t.nodes + length t.records + i ≡ y))
+  Paired = BelowOrBehind (length s.nodes) (length t.nodes) P PairedBehind
 
   module _ (fixed : ℕ) (h : IsPartsPairing P R fixed s t) where
     pub held_long : length s.held ≡ length t.held
     held_long = length_all_zip (ArePartsPaired P R) s.held t.held h.held_paired
 
     paired_one : IsOneToOne Paired
-    paired_one x y v w (inl p) (inl q) = h.nodes_one_to_one x y v w p q
-    paired_one x y v w (inl p) (inr (inl (a, b, q, e, f))) =
-        let r = h.nodes_in_range x y p in (λ k. omega arith, λ k. omega arith)
-    paired_one x y v w (inl p) (inr (inr (i, l, e, f))) =
-        let r = h.nodes_in_range x y p in (λ k. omega arith, λ k. omega arith)
-    paired_one x y v w (inr (inl (a, b, p, e, f))) (inl q) =
-        let r = h.nodes_in_range v w q in (λ k. omega arith, λ k. omega arith)
-    paired_one x y v w (inr (inl (a, b, p, e, f))) (inr (inl (c, d, q, i, j))) =
-        let one = h.records_one_to_one a b c d p q in
-        (λ k. omega (arith, one.0 (omega arith)), λ k. omega (arith, one.1 (omega arith)))
-    paired_one x y v w (inr (inl (a, b, p, e, f))) (inr (inr (i, l, c, d))) =
-        let r = h.records_in_range a b p in (λ k. omega arith, λ k. omega arith)
-    paired_one x y v w (inr (inr (i, l, e, f))) (inl q) =
-        let r = h.nodes_in_range v w q in (λ k. omega arith, λ k. omega arith)
-    paired_one x y v w (inr (inr (i, l, c, d))) (inr (inl (a, b, q, e, f))) =
-        let r = h.records_in_range a b q in (λ k. omega arith, λ k. omega arith)
-    paired_one x y v w (inr (inr (i, l, e, f))) (inr (inr (j, m, c, d))) = (λ k. omega arith, λ k. omega arith)
+    paired_one =
+        let one_place : IsOneToOne (λ i j. (i ≡ j) × (i < length s.held)) = λ x y v w p q. (λ e. cc, λ e. cc) in
+        below_or_behind_one _ _ P _ h.nodes_one_to_one (below_or_behind_one _ _ R _ h.records_one_to_one one_place)
 
     paired_range : (x y : ℕ) → Paired x y
         → (x < length (parts_graph s ++ parts_held s)) × (y < length (parts_graph t ++ parts_held t))
-    paired_range x y (inl p) =
-        let r = h.nodes_in_range x y p in (omega (arith, length-cells s), omega (arith, length-cells t))
-    paired_range x y (inr (inl (a, b, p, e, f))) =
-        let r = h.records_in_range a b p in (omega (arith, length-cells s), omega (arith, length-cells t))
-    paired_range x y (inr (inr (i, l, e, f))) =
+    paired_range x y (inl p) = (omega (arith, length-cells s), omega (arith, length-cells t))
+    paired_range x y (inr (l, k, inl p)) = (omega (arith, length-cells s), omega (arith, length-cells t))
+    paired_range x y (inr (l, k, inr p)) =
         let many = held_long in (omega (arith, length-cells s), omega (arith, length-cells t))
+
+    pub paired_node : (x y : ℕ) → P x y → Paired x y
+    paired_node x y p = let r = h.nodes_in_range x y p in inl (r.0, r.1, p)
+
+    pub paired_record : (x y : ℕ) → R x y → Paired (length s.nodes + x) (length t.nodes + y)
+    paired_record x y p =
+        let r = h.records_in_range x y p in
+        let e : length s.nodes + x - length s.nodes ≡ x = omega arith in
+        let f : length t.nodes + y - length t.nodes ≡ y = omega arith in
+        inr (omega arith, omega arith, rw (e, f) (inl (r.0, r.1, p)))
 
     cells_paired : (a b : Part) → ArePartsPaired P R a b
         → AreCellsPaired Paired (part_cell (length s.nodes) a) (part_cell (length t.nodes) b)
-    cells_paired =
-        cells_from_parts P R Paired _ _ (λ x y q. inl q) (λ x y q. inr (inl (x, y, q, refl, refl)))
+    cells_paired = cells_from_parts P R Paired _ _ paired_node paired_record
 
     paired_cells : (x y : ℕ) → Paired x y
         → AreCellsPaired Paired (content_at (parts_graph s ++ parts_held s) x)
         (content_at (parts_graph t ++ parts_held t) y)
-    paired_cells x y (inl p) =
-        let r = h.nodes_in_range x y p in
-        rw (node_at s x r.0, node_at t y r.1) (cells_paired _ _ (h.nodes_paired x y p))
-    paired_cells x y (inr (inl (a, b, p, e, f))) =
-        let r = h.records_in_range a b p in
-        rw (← e, ← f, record_at s a r.0, record_at t b r.1) (cells_paired _ _ (h.records_paired a b p))
-    paired_cells x y (inr (inr (i, l, e, f))) =
-        rw (← e, ← f, held_behind s i l, held_behind t i (subst (λ n. i < n) held_long l))
-        (cells_paired _ _ (part_from_zip (ArePartsPaired P R) s.held t.held h.held_paired i l))
+    paired_cells x y (inl (l, k, p)) = rw (node_at s x l, node_at t y k) (cells_paired _ _ (h.nodes_paired x y p))
+    paired_cells x y (inr (l, k, inl (i, j, p))) =
+        let e : length s.nodes + (x - length s.nodes) ≡ x = omega arith in
+        let f : length t.nodes + (y - length t.nodes) ≡ y = omega arith in
+        rw (← e, ← f, record_at s _ i, record_at t _ j) (cells_paired _ _ (h.records_paired _ _ p))
+    paired_cells x y (inr (l, k, inr (g, j, p))) =
+        let a = x - length s.nodes - length s.records in
+        let e : length s.nodes + length s.records + a ≡ x = omega arith in
+        let f : length t.nodes + length t.records + a ≡ y = omega arith in
+        rw (← e, ← f, held_behind s a p.1, held_behind t a (omega (arith, held_long)))
+        (cells_paired _ _ (part_from_zip (ArePartsPaired P R) s.held t.held h.held_paired a p.1))
 
     -- paired parts are paired cells, from all roots that are paired
     pub cells_pairing : (roots targets : List ℕ) → AllZip Paired roots targets

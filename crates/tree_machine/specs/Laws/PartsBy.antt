@@ -1,11 +1,11 @@
 -- Parts that are renamed by nodes and records: paired with those they come from, in range, and the same where these
 -- are paired.
-use Rattle.std.proofs.Common.{◌≡◌, ℕ, ◌<◌, ◌≤◌, List, [], ◌∷◌, map, length, refl, ◌∙◌, ap, get_or, zero-add}
+use Rattle.std.proofs.Common.{◌≡◌, ℕ, ◌<◌, ◌≤◌, List, [], ◌∷◌, map, length, refl, ap, arith, get_or}
 use Rattle.std.specs.Prelude.{slice_get, Option, Some, None, nat_eq, IfSome}
 use Rattle.std.specs.List.{AllZip, All, AllByRecursion, IsDistinct, zip}
 use Rattle.std.specs.Option.{option_and_then}
 use Rattle.std.proofs.lemmas.List.{length-map}
-use Rattle.std.proofs.lemmas.List.Elements.{All-map}
+use Rattle.std.proofs.lemmas.List.Elements.{All-map, recursion_from_All}
 use Rattle.std.proofs.lemmas.Option.{slice_get-map, slice_get_within}
 use Rattle.tree_machine.specs.Cells.{place_in}
 use Rattle.tree_machine.specs.Pairing.{IsAmong}
@@ -14,8 +14,9 @@ use Rattle.tree_machine.specs.Parts.{Part, Parts, part_at, ArePartsPaired, IsPar
 use Rattle.tree_machine.specs.Canonical.{renamed_part, parts_by}
 use Rattle.tree_machine.specs.Laws.Cells.{map_paired, unmap, refs_from_renamed}
 use Rattle.tree_machine.specs.Laws.CellOrder.{Has, HasAll, Extends, all_has, get_extends}
+use Rattle.tree_machine.specs.Laws.CellLists.{numbers_all}
 use Rattle.tree_machine.specs.Laws.CellPlaces.{refs_renamed, get_place, has_at, among_at, at_among, rel_among, zip_one}
-use Rattle.tree_machine.specs.Laws.MetLists.{number_at, places, among_places, places_among, places_one, refs_placed}
+use Rattle.tree_machine.specs.Laws.MetLists.{own_number, places, among_places, places_among, places_one, refs_placed}
 
 -- the nodes and the records that a part names are among these
 abbrev pub IsPartMet : List ℕ → List ℕ → Part → Type 0
@@ -30,10 +31,6 @@ pub record AreMet (fixed : ℕ) (s : Parts) (nodes records : List ℕ) : Type 0 
   pub fixed_first : Extends (numbers_from 0 fixed) nodes
   pub nodes_closed : (x : ℕ) → Has nodes x → IsPartMet nodes records (part_at s.nodes x)
   pub records_closed : (y : ℕ) → Has records y → IsPartMet nodes records (part_at s.records y)
-
--- a number below n is at its own place among them
-pub own_number : {n : ℕ} (x : ℕ) → x < n → slice_get (numbers_from 0 n) x ≡ Some x
-own_number {n} x l = number_at 0 n x l ∙ ap Some (zero-add x)
 
 -- the part of a map at a place
 pub part_map_at : {A : Type 0} (f : A → Part) (xs : List A) (k : ℕ) (x : A) → slice_get xs k ≡ Some x
@@ -53,17 +50,18 @@ placed_below : (xs : List ℕ) (refs : List (Option ℕ))
 placed_below xs refs =
     All-map (λ r. IfSome r (λ y. y < length xs)) _ refs (λ k d l. place_below xs (get_or refs k d))
 
-place_range : (n : ℕ) (f : ℕ → Part) (xs : List ℕ) → AllByRecursion (λ x. x < n) xs → (x y : ℕ)
-    → IsAmong (places xs) x y → (x < n) × (y < length (map f xs))
-place_range n f xs below x y p =
-    let at = places_among xs x y p in
-    (all_has (λ x. x < n) xs below x (has_at xs y x at), rw length-map (slice_get_within xs y x at))
-
 pair_range : (n m : ℕ) (xs ys : List ℕ) → AllByRecursion (λ x. x < n) xs → AllByRecursion (λ y. y < m) ys → (x y : ℕ)
     → IsAmong (zip xs ys) x y → (x < n) × (y < m)
 pair_range n m xs ys below above x y p =
     let at = at_among xs ys x y p in
     (all_has (λ x. x < n) xs below x (has_at xs at.0 x at.1), all_has (λ y. y < m) ys above y (has_at ys at.0 y at.2))
+
+place_range : (n : ℕ) (f : ℕ → Part) (xs : List ℕ) → AllByRecursion (λ x. x < n) xs → (x y : ℕ)
+    → IsAmong (places xs) x y → (x < n) × (y < length (map f xs))
+place_range n f xs below =
+    pair_range n _ xs _ below
+    (recursion_from_All _ _
+    (numbers_all (λ y. y < length (map f xs)) 0 (length xs) (λ y l k. rw length-map (omega arith))))
 
 module _ (nodes records : List ℕ) where
   part_paired : (p : Part) → IsPartMet nodes records p
@@ -101,16 +99,12 @@ module _ (nodes records : List ℕ) where
       }
 
   -- what is renamed is in range
-  part_below : (p : Part) → IsPartBelow (length nodes) (length records) (renamed_part nodes records p)
-  part_below p = record {
-    nodes = placed_below nodes p.nodes;
-    records = placed_below records p.records;
-  }
-
   parts_below : {A : Type 0} {n r : ℕ} → n ≡ length nodes → r ≡ length records → (g : A → Part) (xs : List A)
       → All (IsPartBelow n r) (map (λ x. renamed_part nodes records (g x)) xs)
   parts_below {n = n} {r = r} e f g xs =
-      All-map (IsPartBelow n r) _ xs (λ k d l. rw (e, f) (part_below (g (get_or xs k d))))
+      All-map (IsPartBelow n r) _ xs (λ k d l.
+      let p = g (get_or xs k d) in
+      rw (e, f) (record { nodes = placed_below nodes p.nodes; records = placed_below records p.records }))
 
   pub by_in_range : (fixed : ℕ) (s : Parts) → fixed ≤ length nodes → ArePartsInRange fixed (parts_by nodes records s)
   by_in_range fixed s l =
@@ -160,12 +154,11 @@ module _ (fixed : ℕ) (s t : Parts) (nodes records others targets : List ℕ) (
       → AllByRecursion (IsPartMet others targets) qs
       → map (renamed_part nodes records) ps ≡ map (renamed_part others targets) qs → AllZip (ArePartsPaired P R) ps qs
   held_from_same [] [] h g e = tt
-  held_from_same [] (q ∷ qs) h g e = cc
-  held_from_same (p ∷ ps) [] h g e = cc
   held_from_same (p ∷ ps) (q ∷ qs) h g e = (
     part_from_same p q h.0 g.0 (cc),
     held_from_same ps qs h.1 g.1 (cc),
   )
+  held_from_same _ _ h g e = cc
 
   pub paired_from_same : AllByRecursion (IsPartMet nodes records) s.held
       → AllByRecursion (IsPartMet others targets) t.held

@@ -6,12 +6,6 @@ use Rattle.tree_machine.specs.declared.search_order.Shape.{Shape}
 use Rattle.tree_machine.specs.declared.search_order.Shape.TheVariants.{Leaf, Internal}
 use Rattle.tree_machine.specs.SearchOrder.{IsNodeOrdered, IsOrderedWithin, IsOrdered, went_down, end_of}
 
-pub min_below : (m high : ℕ) → m < high → min m high ≡ m
-min_below m high h = omega arith
-
-pub max_above : (m low : ℕ) → low < m → max m low ≡ m
-max_above m low h = omega arith
-
 module _ (shapes : ℕ → Option Shape) where
   apart_node : (levels : ℕ) → ((low high x : ℕ) → IsOrderedWithin shapes levels low high x → low < high)
       → (low high : ℕ) (shape : Option Shape) → IsNodeOrdered (IsOrderedWithin shapes levels) low high shape
@@ -72,19 +66,22 @@ module _ (shapes : ℕ → Option Shape) where
     (λ o. let t = below o.levels low high x (Some (Internal m l r)) e o.within in
         let a = apart t.0 low (min m high) l t.1.0 in
         let b = apart t.0 (max m low) high r t.1.1 in
-        let under : m < high = omega arith in
-        let over : low < m = omega arith in (
-          over,
-          under,
-          record { levels = t.0; within = rw (min_below m high under) at t.1.0 },
-          record { levels = t.0; within = rw (max_above m low over) at t.1.1 },
+        let to_left : min m high ≡ m = omega arith in
+        let to_right : max m low ≡ m = omega arith in (
+          omega arith,
+          omega arith,
+          record { levels = t.0; within = rw to_left at t.1.0 },
+          record { levels = t.0; within = rw to_right at t.1.1 },
         )),
     (λ o. let n = o.2.levels in let p = o.3.levels in
         let left = more_levels n (n + p) low m l (omega arith) o.2.within in
         let right = more_levels p (n + p) m high r (omega arith) o.3.within in
-        let both : IsNodeOrdered (IsOrderedWithin shapes (n + p)) low high (Some (Internal m l r)) =
-        rw (min_below m high o.1, max_above m low o.0) (left, right) in
-        record { levels = suc (n + p); within = of_node (n + p) low high x (Some (Internal m l r)) e both }),
+        let to_left : min m high ≡ m = omega arith in
+        let to_right : max m low ≡ m = omega arith in
+        record {
+          levels = suc (n + p);
+          within = of_node (n + p) low high x (Some (Internal m l r)) e (rw (to_left, to_right) (left, right));
+        }),
   )
 
   -- a search ends at a leaf, and where there is no node

@@ -8,30 +8,23 @@ use Rattle.tree_machine.specs.declared.machine.Outcome.{Outcome}
 use Rattle.tree_machine.specs.declared.machine.Outcome.TheVariants.{Goes, Replies, Astray}
 
 module _ {Place : Type 0} where
-  same_outcome : (outcome : Outcome Place) → AreOutcomesPaired (λ place twin. place ≡ twin) outcome outcome
+  same_outcome : (outcome : Outcome Place) → AreOutcomesPaired ◌≡◌ outcome outcome
   same_outcome (Goes place) = refl
   same_outcome (Replies reply) = refl
   same_outcome Astray = tt
 
-  outcomes_paired : (outcome twin : Outcome Place) → outcome ≡ twin
-      → AreOutcomesPaired (λ place twin. place ≡ twin) outcome twin
-  outcomes_paired outcome twin h =
-      subst (λ o. AreOutcomesPaired (λ place twin. place ≡ twin) outcome o) h (same_outcome outcome)
-
-  held_paired : (held : List (Option Place)) → AllZip (AreHeldPaired (λ place twin. place ≡ twin)) held held
+  held_paired : (held : List (Option Place)) → AllZip (AreHeldPaired ◌≡◌) held held
   held_paired [] = tt
   held_paired (None ∷ held) = (tt, held_paired held)
   held_paired (Some place ∷ held) = (refl, held_paired held)
 
-  held_same : (held twins : List (Option Place)) → AllZip (AreHeldPaired (λ place twin. place ≡ twin)) held twins
+  held_same : (held twins : List (Option Place)) → AllZip (AreHeldPaired ◌≡◌) held twins
       → held ≡ twins
   held_same [] [] h = refl
-  held_same [] (twin ∷ twins) h = absurd h
-  held_same (place ∷ held) [] h = absurd h
   held_same (None ∷ held) (None ∷ twins) h = ap (λ rest. None ∷ rest) (held_same held twins h.1)
-  held_same (None ∷ held) (Some twin ∷ twins) h = absurd h.0
-  held_same (Some place ∷ held) (None ∷ twins) h = absurd h.0
   held_same (Some place ∷ held) (Some twin ∷ twins) h = cc (h.0, held_same held twins h.1)
+  held_same (_ ∷ held) (_ ∷ twins) h = absurd h.0
+  held_same _ _ h = absurd h
 
 module _ {Memory Place : Type 0} where
   pub equal_pairs_lawful : {Operation : Type 0} (first : Operation → Place)
@@ -45,7 +38,7 @@ module _ {Memory Place : Type 0} where
       then = p;
       extends = record { nodes = λ _ _ h. h; records = λ _ _ h. h };
       memories_paired = λ i. (act op (at i) (same i)).0;
-      outcomes_paired = outcomes_paired _ _ (λ i. (act op (at i) (same i)).1);
+      outcomes_paired = subst (AreOutcomesPaired ◌≡◌ _) (λ i. (act op (at i) (same i)).1) (same_outcome _);
     };
   }
 
@@ -56,7 +49,7 @@ module _ {Memory Place : Type 0} where
     (λ same. (
       record { nodes = []; records = [] },
       same.0,
-      subst (AllZip (AreHeldPaired (λ place twin. place ≡ twin)) held) same.1 (held_paired held),
+      subst (AllZip (AreHeldPaired ◌≡◌) held) same.1 (held_paired held),
     )),
     (λ alike. (alike.1, held_same held twins alike.2)),
   )
