@@ -14,7 +14,7 @@ use Rattle.tree_machine.specs.Coding.{Coding, IsVisited, coded_parts, with_part,
 use Rattle.tree_machine.specs.Cells.{met_all, place_in}
 use Rattle.tree_machine.specs.Flat.{all_front, cell_code, number_code, part_codes, part_content, parts_code}
 use Rattle.tree_machine.specs.Graphs.{numbers_from}
-use Rattle.tree_machine.specs.Laws.CellLists.{numbers_distinct}
+use Rattle.tree_machine.specs.Laws.CellLists.{distinct_in_row}
 use Rattle.tree_machine.specs.Laws.CellOrder.{RefsBelow}
 use Rattle.tree_machine.specs.Laws.CellPlaces.{has_at, place_at}
 use Rattle.tree_machine.specs.Laws.Fronts.{own_parts_code}
@@ -111,7 +111,7 @@ module _ (n k : ℕ) (l : n ≤ k) where
   order = numbers_from 0 k
 
   distinct : IsDistinct nat_eq order
-  distinct = subst (IsDistinct nat_eq) (append-nil order) (numbers_distinct 0 k k 0 (omega arith))
+  distinct = (distinct_in_row 0 k).distinct
 
   own_names : (refs : List (Option ℕ)) → RefsBelow n refs
       → (met_all order refs ≡ order) × (map (option_and_then (place_in order)) refs ≡ refs)

@@ -88,11 +88,6 @@ distinct_in_row a n =
       go (suc a) n,
     )
 
-pub numbers_distinct : (a f n t : ℕ) → a + f ≤ n → IsDistinct nat_eq (numbers_from a f ++ numbers_from n t)
-numbers_distinct a f n t l =
-    let both = distinct_in_join a _ n _ _ _ (omega arith) l (omega arith) (distinct_in_row a f) (distinct_in_row n t) in
-    both.distinct
-
 -- distinct numbers stay distinct under a map that is one to one among them
 pub mapped_distinct : (P : ℕ → Type 0) (f : ℕ → ℕ) → ((x y : ℕ) → P x → P y → f x ≡ f y → x ≡ y) → (xs : List ℕ)
     → AllByRecursion P xs → IsDistinct nat_eq xs → IsDistinct nat_eq (map f xs)
