@@ -1,6 +1,6 @@
 -- What the tests of marks say.
 use Rattle.std.proofs.Common.{◌≡◌, ◌≢◌, true, false, not, refl, sym}
-use Rattle.std.proofs.lemmas.Bool.{true≢false}
+use Rattle.std.proofs.lemmas.Bool.{not-false, true≢false}
 use Rattle.book.specs.declared.entry.Mark.{Mark}
 use Rattle.book.specs.declared.entry.Mark.TheVariants.{Open, Taken, Expanded}
 use Rattle.book.specs.Entries.{is_open, is_taken, is_expanded}
@@ -22,13 +22,8 @@ expanded_by Open h = absurd (true≢false (sym h))
 expanded_by Taken h = absurd (true≢false (sym h))
 expanded_by Expanded h = refl
 
-pub left_by : (k : Mark) → is_expanded k ≡ false → k ≢ Expanded
-left_by k h = λ e. true≢false (rw e at h)
-
 pub expanded_from : (k : Mark) → not (is_expanded k) ≡ false → k ≡ Expanded
-expanded_from Open h = absurd (true≢false h)
-expanded_from Taken h = absurd (true≢false h)
-expanded_from Expanded h = refl
+expanded_from k h = expanded_by k (not-false (is_expanded k) h)
 
 pub not_expanded_from : (k : Mark) → not (is_expanded k) ≡ true → k ≢ Expanded
 not_expanded_from k h = λ e. true≢false (sym (rw e at h))
@@ -48,12 +43,6 @@ pub open_fails : (k : Mark) → k ≢ Open → is_open k ≡ false
 open_fails Open h = absurd (h refl)
 open_fails Taken h = refl
 open_fails Expanded h = refl
-
-pub open_left : (k : Mark) → k ≡ Open → is_expanded k ≡ false
-open_left k h = rw h refl
-
-pub taken_left : (k : Mark) → k ≡ Taken → is_expanded k ≡ false
-taken_left k h = rw h refl
 
 pub expanded_fails : (k : Mark) → k ≡ Expanded → not (is_expanded k) ≡ false
 expanded_fails k h = rw h refl

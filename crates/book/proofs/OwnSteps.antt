@@ -1,7 +1,9 @@
 -- Steps of an entry's own state, as they are entered.
-use Rattle.std.proofs.Common.{◌≡◌, ℕ, suc, ◌⊎◌, inl, inr, Option, Some, Result, Ok, Err, IfOk, IfErr, List, [], ◌∷◌}
-use Rattle.std.proofs.Common.{map, refl, sym, ap, ◌∙◌, slice_get, subst}
-use Rattle.std.specs.Prelude.{unwrap_or}
+use Rattle.std.proofs.Common.{◌≡◌, ℕ, ◌⊎◌, inl, inr, Option, Some, Result, Ok, Err, IfOk, IfErr, List, map, refl, ◌∙◌}
+use Rattle.std.proofs.Common.{slice_get, subst}
+use Rattle.std.proofs.lemmas.List.Folds.{map_fixed}
+use Rattle.std.proofs.lemmas.Option.{get_or_from_slice_get}
+use Rattle.tree_machine.proofs.Lists.{get_at}
 use Rattle.tree_machine.specs.Rules.{Rules}
 use Rattle.tree_machine.specs.Step.{Fits}
 use Rattle.tree_machine.specs.declared.state.State.{State}
@@ -15,26 +17,25 @@ use Rattle.book.specs.Entries.{At, Contents, Enters, Entry, IsFullFor, IsOwn, Is
 use Rattle.book.specs.Labels.{label_by, labelled, steps_of}
 use Rattle.book.specs.Law.{IsExpansion}
 use Rattle.replay.specs.Schedule.{StepMachine}
+use Rattle.book.proofs.Lists.{map-map}
 
 -- the steps of a state that are labelled are its steps
 steps_back : {S : Type 0} (step : S → ℕ → Option S) (s : S) (label_of : S → List ℕ) (ys : List (Successor S))
     → ((k : ℕ) (y : Successor S) → slice_get ys k ≡ Some y → step s y.thread ≡ Some y.state)
     → steps_of step s (map (labelled label_of) ys) ≡ ys
-steps_back step s label_of [] leads = refl
-steps_back {S} step s label_of (y ∷ ys) leads =
-    let state : unwrap_or (step s y.thread) s ≡ y.state = ap (λ (o : Option S). unwrap_or o s) (leads 0 y refl) in
-    let head : record { thread = y.thread; state = unwrap_or (step s y.thread) s; finding = y.finding } ≡ y =
-    λ j. record { thread = y.thread; state = state j; finding = y.finding } in
-    ap (λ (z : Successor S). z ∷ steps_of step s (map (labelled label_of) ys)) head
-    ∙ ap (λ (zs : List (Successor S)). y ∷ zs) (steps_back step s label_of ys (λ k. leads (suc k)))
+steps_back step s label_of ys leads =
+    map-map _ (labelled label_of) ys
+    ∙ map_fixed _ ys (λ k d less.
+    let one = get_at ys k less in
+    rw (get_or_from_slice_get ys k one.0 d one.1, leads k one.0 one.1) refl)
 
 are_steps : {S : Type 0} (m : StepMachine S) (right : S → Finding → Type 0) (label_of : S → List ℕ) (s : S)
     (ys : List (Successor S)) → IsExpansion m right s ys → AreStepsOf m right label_of s (map (labelled label_of) ys)
-are_steps {S} m right label_of s ys expansion =
+are_steps m right label_of s ys expansion =
     let back = steps_back m.step s label_of ys expansion.steps in
     record {
-      expansion = subst (λ (zs : List (Successor S)). IsExpansion m right s zs) (sym back) expansion;
-      labels = ap (map (labelled label_of)) (sym back);
+      expansion = rw back expansion;
+      labels = rw back refl;
     }
 
 -- a refusal for memory, or for room that the steps need, is one of what the steps are of

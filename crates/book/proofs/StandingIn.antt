@@ -1,6 +1,6 @@
 -- States that count as one: they have the same findings and labels, and so have their steps.
 use Rattle.std.proofs.Common.{◌≡◌, ℕ, ◌++◌, ◌∷◌, [], ◌∙◌, List, Option, Some, None}
-use Rattle.std.proofs.Common.{ap, arith, refl, subst, sym}
+use Rattle.std.proofs.Common.{ap, arith, refl, sym}
 use Rattle.tree_machine.specs.Alike.{AreStatesAlike}
 use Rattle.tree_machine.specs.Flat.{number_code}
 use Rattle.tree_machine.specs.FormCode.{content_code, named_code, state_code}
@@ -41,16 +41,10 @@ module _ {Machine Memory Place Form : Type 0} (rules : Rules Memory Place) (prog
       λ ordered. is.1
           (alike_ordered rules s r lawful (alike_turned rules form_of forms program r s r_fits s_fits alike) ordered),
     )
-    found_alike r s r_fits s_fits alike found.History is = (
-      sym alike.astray ∙ is.0,
-      alike_ordered rules r s lawful alike is.1,
-      rw (← alike_history rules r s alike) is.2,
-    )
-    found_alike r s r_fits s_fits alike (found.Sound order) is = (
-      sym alike.astray ∙ is.0,
-      alike_ordered rules r s lawful alike is.1,
-      rw (← alike_history rules r s alike) is.2,
-    )
+    found_alike r s r_fits s_fits alike found.History is =
+        rw (← alike.astray, ← alike_history rules r s alike) (is.0, alike_ordered rules r s lawful alike is.1, is.2)
+    found_alike r s r_fits s_fits alike (found.Sound order) is =
+        rw (← alike.astray, ← alike_history rules r s alike) (is.0, alike_ordered rules r s lawful alike is.1, is.2)
 
     pub one_found : (merge : Merge) (r s : State Machine Memory Place Form) → Fits rules program r
         → Fits rules program s → CountsAsOne rules merge r s → (finding : Finding)
@@ -111,7 +105,7 @@ module _ {Machine Memory Place Form : Type 0} (rules : Rules Memory Place) (prog
           by : (o : Option (State Machine Memory Place Form)) → step rules program s t ≡ o
               → Puts (machine_of rules program) (IsFindingOf rules program) label_of t old new o
           by None is = same
-          by (Some u) is = absurd (let v = one_step merge s c u t one is in cc (none, v.1))
+          by (Some u) is = cc (none, (one_step merge s c u t one is).1)
 
 -- what is read from a label counts as one with each state that has it
 pub read_stands : {Machine Memory Place Form : Type 0} (rules : Rules Memory Place) (program : Program)
@@ -149,6 +143,6 @@ source_of front_code behind_code rules own_code form_code form_of taken offsets 
       steps_fit = omega (arith, stands.steps, of.bounded);
       sound = one_found (rules key.machine) key.program (form_of key.machine) lawful forms key.merge of.state c of.fits
           stands.fits stands.counts (found.Sound order)
-          (subst (IsFindingOf (rules key.machine) key.program of.state) sound of.finding);
+          (rw sound at of.finding);
       counts = (λ r r_fits r_is. (read.stands key.merge key.program limits r r_fits r_is).counts);
     }

@@ -1,4 +1,4 @@
-use Rattle.std.proofs.Common.{◌≡◌, ◌++◌, ◌∷◌, [], ℕ, Option, Some, List, map, refl, sym, ap, ◌∙◌}
+use Rattle.std.proofs.Common.{◌≡◌, ◌++◌, ◌∷◌, [], ℕ, Option, Some, List, map, refl}
 use Rattle.std.specs.Cmp.Lexicographic.{lists_equiv}
 use Rattle.std.specs.Map.{keys_of}
 use Rattle.tree_machine.specs.Laws.CellOrder.{nat_equivalence}
@@ -8,8 +8,8 @@ use Rattle.book.specs.Entries.{Entry, Successor, opened, states}
 use Rattle.book.specs.Labels.{same_label}
 use Rattle.book.specs.Slots.{AreSteps, keyed_of, unlisted}
 use Rattle.book.specs.Unknown.{unknown}
-use Rattle.book.proofs.Left.{grown_front, grown_same}
-use Rattle.book.proofs.SlotLemmas.{no_steps, one_step, put_step, step_row}
+use Rattle.book.proofs.Lists.{grown_front, grown_same}
+use Rattle.book.proofs.SlotLemmas.{no_steps, one_step, put_step}
 use Rattle.book.proofs.placing.put_step.Goals as goal
 
 -- the row of a step is inserted
@@ -25,34 +25,29 @@ module _ {S : Type 0} (es new : List (List ℕ × Entry S)) (i : ℕ) (one : Suc
       ≡ map keyed_of es ++ map (opened i) (unknown same_label (states (map keyed_of es)) (one ∷ []))
   under_label =
       put_step same_label same_label (lists_equiv nat_equivalence).symm es new i one one.state row put
-      (ap (λ (r : Entry S). keyed_of (one.state, r)) is
-      ∙ step_row i one one.state one.thread one.finding s refl refl refl)
+      (rw is refl)
 
   is_step : (step : S → ℕ → Option S) (source : S) → step source one.thread ≡ Some s → AreSteps step source es new
   is_step step source leads =
       one_step step source same_label es new one.state row (record { parent = i; thread = one.thread }) put
-      (ap (λ (r : Entry S). r.origin) is) (leads ∙ ap (λ (r : Entry S). Some r.state) (sym is))
+      (rw is refl) (rw is leads)
 
 pub returns-in-Some-clause-put : goal.returns-in-Some-clause-put
 returns-in-Some-clause-put g c =
-    under_label _ _ c.args.parent c.args.one c.open-row.result c.shown_step-shown.result.value
-    c.in_ok-known.ensures.put c.open-row.ensures
+    under_label _ _ _ c.args.one _ _ c.in_ok-known.ensures.put c.open-row.ensures
 
 pub returns-in_default-clause-put : goal.returns-in_default-clause-put
 returns-in_default-clause-put g c =
-    under_label _ _ c.args.parent c.args.one c.open-row.result c.shown_step-shown.result.value
-    c.in_ok-known.ensures.put c.open-row.ensures
+    under_label _ _ _ c.args.one _ _ c.in_ok-known.ensures.put c.open-row.ensures
 
 pub returns-in-Some-clause-steps : goal.returns-in-Some-clause-steps
 returns-in-Some-clause-steps g c =
-    is_step _ _ c.args.parent c.args.one c.open-row.result c.shown_step-shown.result.value
-    c.in_ok-known.ensures.put c.open-row.ensures
+    is_step _ _ _ c.args.one _ _ c.in_ok-known.ensures.put c.open-row.ensures
     (step (g.M.Machine.rules c.args.machine) c.args.program.now) c.args.source.now.value c.shown_step-shown.ensures
 
 pub returns-in_default-clause-steps : goal.returns-in_default-clause-steps
 returns-in_default-clause-steps g c =
-    is_step _ _ c.args.parent c.args.one c.open-row.result c.shown_step-shown.result.value
-    c.in_ok-known.ensures.put c.open-row.ensures
+    is_step _ _ _ c.args.one _ _ c.in_ok-known.ensures.put c.open-row.ensures
     (step (g.M.Machine.rules c.args.machine) c.args.program.now) c.args.source.now.value c.shown_step-shown.ensures
 
 pub returns-in-Some-clause-kept : goal.returns-in-Some-clause-kept

@@ -4,7 +4,7 @@ use Rattle.tree_machine.specs.Step.{step}
 use Rattle.book.specs.Labels.{same_label}
 use Rattle.book.specs.Slots.{keyed_of}
 use Rattle.book.proofs.Draining.{all_drained}
-use Rattle.book.proofs.Left.{grown_itself, grown_on}
+use Rattle.book.proofs.Lists.{grown_on, grown_same}
 use Rattle.book.proofs.SlotLemmas.{more_steps, no_steps, put_turn}
 use Rattle.book.proofs.placing.put_steps.Goals as goal
 
@@ -12,7 +12,7 @@ pub loop-one-init : goal.loop-one-init
 loop-one-init g c =
     record {
       put = sym (append-nil (map keyed_of c.args.slots.now.entries));
-      kept = grown_itself c.args.slots.now.entries;
+      kept = grown_same c.args.slots.now.entries _ refl;
       rows = no_steps (step (g.M.Machine.rules c.args.machine) c.args.program.now) c.args.source.now.value
           c.args.slots.now.entries c.args.slots.now.entries refl;
     }
