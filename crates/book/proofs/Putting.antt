@@ -25,29 +25,19 @@ use Rattle.book.proofs.Unknown.{at-states, list_any-false, list_any-true}
 -- what is new by a test is new by a relation that agrees with it
 module _ {S : Type 0} (m : StepMachine S) (same : S → S → Bool) (Same : S → S → Type 0)
     (agree : Agree m (AreOneBy same) Same) where
-  module _ (known : List S) (fit : (k : ℕ) (r : S) → slice_get known k ≡ Some r → m.Fits r) (s : S) (fits : m.Fits s)
-    where
-      knows_by : knows same known s ≡ true → Knows Same known s
-      knows_by h =
-          let w = list_any-true (λ r. same r s) known h in
-          (w.0, w.1, w.2, (agree w.1 s (fit w.0 w.1 w.2) fits).0 w.3)
-
-      knows_not : knows same known s ≡ false → Knows Same known s → ⊥
-      knows_not h w =
-          true≢false (sym ((agree w.1 s (fit w.0 w.1 w.2) fits).1 w.3)
-          ∙ list_any-false (λ r. same r s) known h w.0 w.1 w.2)
-
-  pub are_new : (known : List S) → ((k : ℕ) (r : S) → slice_get known k ≡ Some r → m.Fits r)
+  are_new : (known : List S) → ((k : ℕ) (r : S) → slice_get known k ≡ Some r → m.Fits r)
       → (xs : List (Successor S)) → ((k : ℕ) (x : Successor S) → slice_get xs k ≡ Some x → m.Fits x.state)
       → AreNew Same known xs (unknown same known xs)
   are_new known fit [] fits = refl
   are_new known fit (x ∷ xs) fits =
       let rest = unknown same (known ++ x.state ∷ []) xs in
       let more = all_pushed m.Fits known x.state fit (fits 0 x refl) in
+      let alike = λ (k : ℕ) (r : S) (at : slice_get known k ≡ Some r). agree r x.state (fit k r at) (fits 0 x refl) in
       cond_both (knows same known x.state) (unknown same known xs) (x ∷ rest) (AreNew Same known (x ∷ xs))
-      (λ h. inl (knows_by known fit x.state (fits 0 x refl) h, are_new known fit xs (λ k. fits (suc k))))
+      (λ h. let w = list_any-true (λ r. same r x.state) known h in
+      inl ((w.0, w.1, w.2, (alike w.0 w.1 w.2).0 w.3), are_new known fit xs (λ k. fits (suc k))))
       (λ h. inr (
-        knows_not known fit x.state (fits 0 x refl) h,
+        (λ w. cc ((alike w.0 w.1 w.2).1 w.3, list_any-false (λ r. same r x.state) known h w.0 w.1 w.2)),
         (rest, refl, are_new (known ++ x.state ∷ []) more xs (λ k. fits (suc k))),
       ))
 

@@ -238,7 +238,6 @@ pub record IsLayerAt {S : Type 0} (steps : S → ℕ) (es : List (Entry S)) (a e
   pub some : a < end
   pub range : IsRange steps es a (end - a)
   pub later : (i : ℕ) (e : Entry S) → At es i e → a + (end - a) ≤ i → steps entry.state < steps e.state
-  pub within : end ≤ length es
 
 module _ {S : Type 0} (m : StepMachine S) (same : S → S → Bool) (right : S → Finding → Type 0) where
   -- those from the next one on that have no more steps than it; what is known of the entries is said of an equal list
@@ -268,7 +267,6 @@ module _ {S : Type 0} (m : StepMachine S) (same : S → S → Bool) (right : S �
           within = omega arith;
         };
         later = (λ i e at ge. omega (arith, beyond i e at (omega arith)));
-        within = within;
       })
 
   -- what is so of the state of each entry is so of each state in a range of them

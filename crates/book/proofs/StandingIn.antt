@@ -77,24 +77,20 @@ module _ {Machine Memory Place Form : Type 0} (rules : Rules Memory Place) (prog
     -- the state c stands in for s: the step of a thread of c is appended as that of s
     module _ (merge : Merge) (s c : State Machine Memory Place Form) (t : ℕ) (s_fits : Fits rules program s)
         (c_fits : Fits rules program c) (one : CountsAsOne rules merge s c) where
-      module _ (n : State Machine Memory Place Form) (leads : step rules program c t ≡ Some n) where
-        twin : (u : State Machine Memory Place Form) × (step rules program s t ≡ Some u) × CountsAsOne rules merge n u
-        twin = one_step merge c s n t (one_turned merge s c s_fits c_fits one) leads
-
-        pub puts_twin : (own_code : Memory → List (Option Place) → List ℕ) (form_code : Form → List ℕ)
-            (old new : List (Successor (List ℕ))) (x : Successor (List ℕ)) → new ≡ old ++ x ∷ [] → x.thread ≡ t
-            → x.state ≡ label_by own_code form_code form_of merge n → Fits rules program n
-            → IsFindingOf rules program n x.finding
-            → PutsStep (machine_of rules program) (IsFindingOf rules program)
-            (label_by own_code form_code form_of merge) s t old new
-        puts_twin own_code form_code old new x pushed is_thread label n_fits is =
-            let u = twin.0 in
-            let counts : CountsAsOne rules merge n u = twin.2 in
-            let u_fits : Fits rules program u = step_fits rules program s s_fits lawful t u twin.1 in
-            puts_next (machine_of rules program) (IsFindingOf rules program) s
-            (label_by own_code form_code form_of merge) t old new x u twin.1 pushed is_thread
-            (label ∙ one_label own_code form_code merge n u n_fits u_fits counts)
-            (one_found merge n u n_fits u_fits counts x.finding is) u_fits
+      pub puts_twin : (n : State Machine Memory Place Form) → step rules program c t ≡ Some n
+          → (own_code : Memory → List (Option Place) → List ℕ) (form_code : Form → List ℕ)
+          (old new : List (Successor (List ℕ))) (x : Successor (List ℕ)) → new ≡ old ++ x ∷ [] → x.thread ≡ t
+          → x.state ≡ label_by own_code form_code form_of merge n → Fits rules program n
+          → IsFindingOf rules program n x.finding
+          → PutsStep (machine_of rules program) (IsFindingOf rules program)
+          (label_by own_code form_code form_of merge) s t old new
+      puts_twin n leads own_code form_code old new x pushed is_thread label n_fits is =
+          let u = one_step merge c s n t (one_turned merge s c s_fits c_fits one) leads in
+          let u_fits = step_fits rules program s s_fits lawful t u.0 u.1 in
+          puts_next (machine_of rules program) (IsFindingOf rules program) s
+          (label_by own_code form_code form_of merge) t old new x u.0 u.1 pushed is_thread
+          (label ∙ one_label own_code form_code merge n u.0 n_fits u_fits u.2)
+          (one_found merge n u.0 n_fits u_fits u.2 x.finding is) u_fits
 
       -- where c has no step, s has none
       pub puts_none : (label_of : State Machine Memory Place Form → List ℕ)
