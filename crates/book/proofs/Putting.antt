@@ -1,6 +1,6 @@
 -- The steps of a taken entry are inserted, and it is marked expanded: what follows for the book.
-use Rattle.std.proofs.Common.{◌≡◌, ℕ, suc, ◌+◌, ◌-◌, ◌^◌, ◌<◌, ◌≤◌, inl, inr, Bool, true, false, Some, IsSome}
-use Rattle.std.proofs.Common.{Option, List, [], ◌∷◌, ◌++◌, length, map, refl, sym, ◌∙◌, arith, slice_get, true≢false}
+use Rattle.std.proofs.Common.{◌≡◌, ℕ, suc, ◌+◌, ◌-◌, ◌^◌, ◌<◌, ◌≤◌, inl, inr, Bool, Some, IsSome}
+use Rattle.std.proofs.Common.{Option, List, [], ◌∷◌, ◌++◌, length, map, refl, sym, ◌∙◌, arith, slice_get}
 use Rattle.std.proofs.Common.{length-append}
 use Rattle.std.specs.List.{All}
 use Rattle.std.proofs.lemmas.Bool.{cond_both}
@@ -12,7 +12,7 @@ use Rattle.tree_machine.proofs.Lists.{get_at, map-get}
 use Rattle.book.specs.declared.entry.Mark.TheVariants.{Taken, Expanded}
 use Rattle.book.specs.Books.{machine_in, right_in, CountsAsOne, IsBook}
 use Rattle.book.specs.ByLabel.{AreStepsOf}
-use Rattle.book.specs.Entries.{AreNew, At, Contents, Enters, Entry, IsFullFor, IsTaken, Knows, Successor, opened}
+use Rattle.book.specs.Entries.{AreNew, At, Contents, Enters, Entry, IsFullFor, IsTaken, Successor, opened}
 use Rattle.book.specs.Entries.{states, with_mark}
 use Rattle.book.specs.Unknown.{knows, unknown}
 use Rattle.book.specs.Labels.{same_as, steps_of}

@@ -1,8 +1,9 @@
 -- Rows put under keys that are new.
-use Rattle.std.proofs.Common.{◌≡◌, ℕ, zero, suc, true, false, cond, Bool, Option, Some, None, is_some, List, []}
-use Rattle.std.proofs.Common.{◌∷◌, ◌++◌, length, map, refl, ap, ◌∙◌, append-nil, append_assoc, slice_get, inl, inr}
+use Rattle.std.proofs.Common.{◌≡◌, ℕ, zero, suc, true, false, Bool, Option, Some, None, is_some, List, []}
+use Rattle.std.proofs.Common.{◌∷◌, ◌++◌, length, map, refl, ap, append-nil, append_assoc, slice_get, inl, inr}
 use Rattle.std.proofs.Common.{arith}
 use Rattle.std.specs.List.{list_any}
+use Rattle.std.specs.Cmp.Lexicographic.{lists_equiv}
 use Rattle.std.specs.Map.{lookup, keys_of, values_of}
 use Rattle.std.proofs.Math.ListN.{length-map}
 use Rattle.std.proofs.lemmas.Bool.{cases_Bool, cond_both, or_parts}
@@ -10,10 +11,13 @@ use Rattle.std.proofs.lemmas.List.{map-append}
 use Rattle.std.proofs.lemmas.Map.Made.{is_some-lookup}
 use Rattle.std.proofs.lemmas.Option.{slice_get_within}
 use Rattle.tree_machine.proofs.Lists.{get-append_cases}
+use Rattle.tree_machine.specs.Laws.CellOrder.{nat_equivalence}
 use Rattle.indexmap.specs.IndexMap.{insert_entry, set_value_at}
 use Rattle.book.specs.declared.entry.Mark.{Mark}
+use Rattle.book.specs.declared.entry.Mark.TheVariants.{Open}
 use Rattle.book.specs.declared.entry.Origin.{Origin}
 use Rattle.book.specs.Entries.{Entry, Successor, with_mark, opened, states}
+use Rattle.book.specs.Labels.{same_label}
 use Rattle.book.specs.Unknown.{knows, unknown}
 use Rattle.book.specs.Slots.{AreSteps, IsGrown, unlisted, keyed_of, entries_of, labels_of}
 use Rattle.book.proofs.Lists.{behind, get-single, map-map, put_behind}
@@ -63,48 +67,49 @@ module _ {S : Type 0} where
   pub length-entries : (es : List (List ℕ × Entry S)) → length (entries_of es) ≡ length es
   length-entries es = length-map es (λ slot. slot.1)
 
--- ---- rows that are put in for steps
-module _ {S : Type 0} (eq : List ℕ → List ℕ → Bool) (same : List ℕ → List ℕ → Bool)
-    (as_same : (k l : List ℕ) → eq k l ≡ same l k) where
-  known_as : (es : List (List ℕ × Entry S)) (k : List ℕ)
-      → list_any (eq k) (keys_of es) ≡ knows same (states (map keyed_of es)) k
-  known_as [] k = refl
-  known_as (p ∷ es) k = rw (as_same k p.0, known_as es k) refl
+-- ---- a row that is put in for a step
+known_as : {S : Type 0} (es : List (List ℕ × Entry S)) (k : List ℕ)
+    → list_any (same_label k) (keys_of es) ≡ knows same_label (states (map keyed_of es)) k
+known_as [] k = refl
+known_as (p ∷ es) k = rw ((lists_equiv nat_equivalence).symm k p.0, known_as es k) refl
 
-  opens_by : (i : ℕ) (x : Successor (List ℕ)) (k : List ℕ) (w : Entry S) (b : Bool) → keyed_of (k, w) ≡ opened i x
-      → map keyed_of (cond b [] ((k, w) ∷ [])) ≡ map (opened i) (cond b [] (x ∷ []))
-  opens_by i x k w true is = refl
-  opens_by i x k w false is = ap (λ e. e ∷ []) is
+module _ {S : Type 0} (es new : List (List ℕ × Entry S)) (i : ℕ) (x : Successor (List ℕ)) (row : Entry S) (s : S)
+    (put : new ≡ es ++ unlisted same_label (keys_of es) ((x.state, row) ∷ []))
+    (is : row ≡ record {
+      state = s;
+      finding = x.finding;
+      origin = Some (record { parent = i; thread = x.thread });
+      mark = Open;
+    }) where
+  -- it is under the step's label
+  pub put_step : map keyed_of new
+      ≡ map keyed_of es ++ map (opened i) (unknown same_label (states (map keyed_of es)) (x ∷ []))
+  put_step =
+      rw (put, map-append, is, known_as es x.state)
+      (elim (cases_Bool (knows same_label (states (map keyed_of es)) x.state)) [
+        | inl t ↦ rw t refl
+        | inr f ↦ rw f refl
+      ])
 
-  -- a row that is put in for a step
-  pub put_step : (es new : List (List ℕ × Entry S)) (i : ℕ) (x : Successor (List ℕ)) (k : List ℕ) (w : Entry S)
-      → new ≡ es ++ unlisted eq (keys_of es) ((k, w) ∷ []) → keyed_of (k, w) ≡ opened i x
-      → map keyed_of new ≡ map keyed_of es ++ map (opened i) (unknown same (states (map keyed_of es)) (x ∷ []))
-  put_step es new i x k w put is =
-      let known = known_as es k ∙ ap (λ (e : Entry (List ℕ)). knows same (states (map keyed_of es)) e.state) is in
-      rw (put, map-append, known) (ap (λ ys. map keyed_of es ++ ys)
-      (opens_by i x k w (knows same (states (map keyed_of es)) x.state) is))
+  -- and is the step
+  pub one_step : (step : S → ℕ → Option S) (source : S) → step source x.thread ≡ Some s → AreSteps step source es new
+  one_step step source leads j slot le at =
+      elim (get-append_cases es (unlisted same_label (keys_of es) ((x.state, row) ∷ [])) j slot (rw put at at)) [
+        | inl old ↦ let less = slice_get_within es j slot old in absurd (omega arith)
+        | inr r ↦ cond_both (list_any (same_label x.state) (keys_of es)) [] ((x.state, row) ∷ [])
+            (λ (slots : List (List ℕ × Entry S)). slice_get slots r.0 ≡ Some slot
+            → (o : Origin) × (slot.1.origin ≡ Some o) × (step source o.thread ≡ Some slot.1.state))
+            (λ _ none. cc)
+            (λ _ there. rw (← get-single (x.state, row) r.0 slot there, is)
+            (record { parent = i; thread = x.thread }, refl, leads)) r.2
+      ]
 
--- what was put in for a step is the step
+-- ---- step after step
 module _ {S : Type 0} (step : S → ℕ → Option S) (s : S) where
   pub no_steps : (es new : List (List ℕ × Entry S)) → new ≡ es → AreSteps step s es new
   no_steps es new is i slot le at =
       let less = slice_get_within es i slot (rw is at at) in absurd (omega arith)
 
-  pub one_step : (eq : List ℕ → List ℕ → Bool) (es new : List (List ℕ × Entry S)) (k : List ℕ) (w : Entry S)
-      (o : Origin) → new ≡ es ++ unlisted eq (keys_of es) ((k, w) ∷ []) → w.origin ≡ Some o
-      → step s o.thread ≡ Some w.state → AreSteps step s es new
-  one_step eq es new k w o put origin leads i slot le at =
-      elim (get-append_cases es (unlisted eq (keys_of es) ((k, w) ∷ [])) i slot (rw put at at)) [
-        | inl old ↦ let less = slice_get_within es i slot old in absurd (omega arith)
-        | inr r ↦ cond_both (list_any (eq k) (keys_of es)) [] ((k, w) ∷ [])
-            (λ (slots : List (List ℕ × Entry S)). slice_get slots r.0 ≡ Some slot
-            → (p : Origin) × (slot.1.origin ≡ Some p) × (step s p.thread ≡ Some slot.1.state))
-            (λ _ none. cc)
-            (λ _ there. rw (← get-single (k, w) r.0 slot there) (o, origin, leads)) r.2
-      ]
-
-  -- and so on
   pub more_steps : (old mid new : List (List ℕ × Entry S)) → IsGrown mid new → AreSteps step s old mid
       → AreSteps step s mid new → AreSteps step s old new
   more_steps old mid new grown first then i slot le at =
@@ -113,7 +118,6 @@ module _ {S : Type 0} (step : S → ℕ → Option S) (s : S) where
         | inr r ↦ then i slot (omega (arith, r.1)) at
       ]
 
--- ---- step after step
 module _ {S : Type 0} (same : S → S → Bool) where
   unknown_push : (known : List S) (xs : List (Successor S)) (x : Successor S)
       → unknown same known (xs ++ x ∷ []) ≡ unknown same known xs

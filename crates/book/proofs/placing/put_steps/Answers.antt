@@ -19,16 +19,13 @@ loop-one-init g c =
 
 pub loop-one-preserved : goal.loop-one-preserved
 loop-one-preserved g c =
-    let old = c.args.slots.now.entries in
-    let mid = c.loop-one.slots.entries in
-    let new = c.put_step.new.slots.entries in
     let so_far = c.loop-one.invariant in
     record {
-      put = put_turn same_label (map keyed_of old) (map keyed_of mid) (map keyed_of new) c.args.parent
-          c.loop-one.yielded c.in-Some.one so_far.put c.in_ok-put_step.ensures.put;
-      kept = grown_on old mid new so_far.kept c.put_step.ensures.kept;
-      rows = more_steps (step (g.M.Machine.rules c.args.machine) c.args.program.now) c.args.source.now.value
-          old mid new c.put_step.ensures.kept so_far.rows c.put_step.ensures.steps;
+      put = put_turn same_label _ _ _ c.args.parent c.loop-one.yielded c.in-Some.one so_far.put
+          c.in_ok-put_step.ensures.put;
+      kept = grown_on _ _ _ so_far.kept c.put_step.ensures.kept;
+      rows = more_steps (step (g.M.Machine.rules c.args.machine) c.args.program.now) c.args.source.now.value _ _ _
+          c.put_step.ensures.kept so_far.rows c.put_step.ensures.steps;
     }
 
 pub returns-clause-put : goal.returns-clause-put
@@ -45,11 +42,9 @@ returns-clause-kept g c = c.loop-one.invariant.kept
 
 pub returns-in_err-put_step-clause-kept : goal.returns-in_err-put_step-clause-kept
 returns-in_err-put_step-clause-kept g c =
-    grown_on c.args.slots.now.entries c.loop-one.slots.entries c.put_step.new.slots.entries
-    c.loop-one.invariant.kept c.put_step.ensures.kept
+    grown_on _ _ _ c.loop-one.invariant.kept c.put_step.ensures.kept
 
 pub returns-in_err-put_step-clause-steps : goal.returns-in_err-put_step-clause-steps
 returns-in_err-put_step-clause-steps g c =
-    more_steps (step (g.M.Machine.rules c.args.machine) c.args.program.now) c.args.source.now.value
-    c.args.slots.now.entries c.loop-one.slots.entries c.put_step.new.slots.entries
+    more_steps (step (g.M.Machine.rules c.args.machine) c.args.program.now) c.args.source.now.value _ _ _
     c.put_step.ensures.kept c.loop-one.invariant.rows c.put_step.ensures.steps

@@ -1,5 +1,4 @@
 use Rattle.std.proofs.Common.{refl, ◌∙◌}
-use Rattle.book.specs.Slots.{entries_of}
 use Rattle.book.proofs.Ranges.{marks_more}
 use Rattle.book.proofs.table.mark_range.Goals as goal
 

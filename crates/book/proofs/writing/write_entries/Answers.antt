@@ -1,8 +1,6 @@
-use Rattle.std.proofs.Common.{◌≡◌, ◌<◌, ◌≤◌, [], ◌∷◌, ◌++◌, ◌∙◌, length, sym, ap, arith}
+use Rattle.std.proofs.Common.{◌≤◌, length, sym, arith}
 use Rattle.std.proofs.lemmas.List.{take_all}
 use Rattle.tree_machine.proofs.Lists.{get_at}
-use Rattle.replay.specs.Text.Files.{ended}
-use Rattle.replay.specs.Text.Written.{head_text}
 use Rattle.book.proofs.BookFile.Writable.{written_none, written_next, written_all}
 use Rattle.book.proofs.writing.write_entries.Goals as goal
 

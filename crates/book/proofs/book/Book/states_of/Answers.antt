@@ -1,6 +1,4 @@
-use Rattle.std.proofs.Common.{ℕ, arith, refl, Global}
-use Rattle.std.specs.declared.sync.Arc.{Arc}
-use Rattle.tree_machine.specs.declared.state.State.{State}
+use Rattle.std.proofs.Common.{arith, refl}
 use Rattle.book.proofs.Ranges.{numbers_more, states_more}
 use Rattle.book.proofs.book.Book.states_of.Goals as goal
 

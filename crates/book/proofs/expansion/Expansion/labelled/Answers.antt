@@ -34,6 +34,5 @@ loop-one-preserved g c =
           c.in_ok-label.label (rw c.deref-one-items.ensures.value at c.loop-one-test.true)
           (rw c.deref-one-items.ensures.value at c.one-item.is)
           (rw (← c.self.view_is) at c.loop-one.invariant.steps) c.in_ok-label.ensures);
-      room = (let same = c.push_reserved.ensures.capacity in
-          let enough = c.loop-one.invariant.room in omega (arith, same, enough));
+      room = omega (arith, c.push_reserved.ensures.capacity, c.loop-one.invariant.room);
     }

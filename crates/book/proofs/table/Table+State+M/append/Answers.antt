@@ -1,4 +1,4 @@
-use Rattle.std.proofs.Common.{◌≡◌, ◌<◌, false, Bool, None, Some, Option, is_some, not, length, map, position, sym, ap}
+use Rattle.std.proofs.Common.{◌≡◌, false, Bool, None, Some, Option, is_some, not, map, position, sym, ap}
 use Rattle.std.proofs.Common.{◌∙◌, arith, refl, inr}
 use Rattle.tree_machine.specs.Step.{step}
 use Rattle.book.specs.Entries.{Entry, opened}
@@ -50,27 +50,21 @@ pub returns-then-len-limit-clause-refused : goal.returns-then-len-limit-clause-r
 returns-then-len-limit-clause-refused g c = inr (
   refl,
   λ label_of e known at are.
-      let old = c.self.inside.slots.entries in
-      let new = c.put_steps.new.slots.entries in
       let count =
-      appended_length label_of (step (g.M.Machine.rules c.args.machine) c.args.program.now) c.args.self.now old new
-      c.self.view_is c.args.parent c.args.steps.items c.put_steps.ensures.kept c.in-Ok.ensures.put c.entry.result.now
-      c.entry.ensures c.copy-source.result.value (c.copy-source.ensures ∙ c.shown.ensures) c.put_steps.ensures.steps e
-      known at are (c.requires.enabled e at) in
-      let more : c.args.limit < c.len.result = c.if-len-limit.true in
-      let n : c.len.result ≡ length new = c.len.ensures.len in
-      let l : length (entries_of new) ≡ length new = length-entries new in
-      omega arith,
+      appended_length label_of (step (g.M.Machine.rules c.args.machine) c.args.program.now) c.args.self.now _ _
+      c.self.view_is c.args.parent _ c.put_steps.ensures.kept c.in-Ok.ensures.put _ c.entry.ensures _
+      (c.copy-source.ensures ∙ c.shown.ensures) c.put_steps.ensures.steps e known at are (c.requires.enabled e at) in
+      let l = length-entries c.put_steps.new.slots.entries in
+      omega (arith, c.if-len-limit.true, c.len.ensures.len),
 )
 
 pub returns-clause-put : goal.returns-clause-put
 returns-clause-put g c = λ label_of e known at are.
-    let old = c.self.inside.slots.entries in
-    let new = c.put_steps.new.slots.entries in
-    let after = appended_known label_of (step (g.M.Machine.rules c.args.machine) c.args.program.now) c.args.self.now old
-    new c.self.view_is c.args.parent c.args.steps.items c.put_steps.ensures.kept c.in-Ok.ensures.put
-    c.entry.result.now c.entry.ensures c.copy-source.result.value (c.copy-source.ensures ∙ c.shown.ensures)
-    c.put_steps.ensures.steps e known at are (c.requires.enabled e at) c.if-is_none.self in
+    let after =
+    appended_known label_of (step (g.M.Machine.rules c.args.machine) c.args.program.now) c.args.self.now _ _
+    c.self.view_is c.args.parent _ c.put_steps.ensures.kept c.in-Ok.ensures.put _ c.entry.ensures _
+    (c.copy-source.ensures ∙ c.shown.ensures) c.put_steps.ensures.steps e known at are (c.requires.enabled e at)
+    c.if-is_none.self in
     elim c.if-is_none.branch [
       | then-is_none w ↦ after w.self-is
       | else-is_none w ↦ after w.self-is
