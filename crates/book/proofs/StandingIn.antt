@@ -26,31 +26,25 @@ use Rattle.book.specs.declared.successor.Successor.{Successor}
 use Rattle.book.specs.Expanding.{Puts, PutsStep}
 use Rattle.replay.specs.Findings.{machine_of, IsFindingOf}
 use Rattle.book.specs.Labels.{label_by}
-use Rattle.book.proofs.ThreadSteps.{puts_next}
 
 module _ {Machine Memory Place Form : Type 0} (rules : Rules Memory Place) (program : Program)
     (form_of : Memory → List (Option Place) → Form) (lawful : AreLawful rules) (forms : AreFormsExact rules form_of)
   where
-    -- what is found of a state is found of one that is alike to it: the same fault, or the same linearization
-    found_alike : (r s : State Machine Memory Place Form) → Fits rules program r → Fits rules program s
-        → AreStatesAlike rules r s
-        → (finding : Finding) → IsFindingOf rules program r finding → IsFindingOf rules program s finding
-    found_alike r s r_fits s_fits alike found.Astray is = rw (← alike.astray) is
-    found_alike r s r_fits s_fits alike found.Order is = (
-      sym alike.astray ∙ is.0,
-      λ ordered. is.1
-          (alike_ordered rules s r lawful (alike_turned rules form_of forms program r s r_fits s_fits alike) ordered),
-    )
-    found_alike r s r_fits s_fits alike found.History is =
-        rw (← alike.astray, ← alike_history rules r s alike) (is.0, alike_ordered rules r s lawful alike is.1, is.2)
-    found_alike r s r_fits s_fits alike (found.Sound order) is =
-        rw (← alike.astray, ← alike_history rules r s alike) (is.0, alike_ordered rules r s lawful alike is.1, is.2)
-
+    -- what is found of a state is found of one that counts as one: the same fault, or the same linearization
     pub one_found : (merge : Merge) (r s : State Machine Memory Place Form) → Fits rules program r
         → Fits rules program s → CountsAsOne rules merge r s → (finding : Finding)
         → IsFindingOf rules program r finding → IsFindingOf rules program s finding
     one_found Exact r s r_fits s_fits one finding is = rw (← one) is
-    one_found Names r s r_fits s_fits one finding is = found_alike r s r_fits s_fits one finding is
+    one_found Names r s r_fits s_fits alike found.Astray is = rw (← alike.astray) is
+    one_found Names r s r_fits s_fits alike found.Order is = (
+      sym alike.astray ∙ is.0,
+      λ ordered. is.1
+          (alike_ordered rules s r lawful (alike_turned rules form_of forms program r s r_fits s_fits alike) ordered),
+    )
+    one_found Names r s r_fits s_fits alike found.History is =
+        rw (← alike.astray, ← alike_history rules r s alike) (is.0, alike_ordered rules r s lawful alike is.1, is.2)
+    one_found Names r s r_fits s_fits alike (found.Sound order) is =
+        rw (← alike.astray, ← alike_history rules r s alike) (is.0, alike_ordered rules r s lawful alike is.1, is.2)
 
     -- counting as one goes both ways
     pub one_turned : (merge : Merge) (r s : State Machine Memory Place Form) → Fits rules program r
@@ -87,10 +81,14 @@ module _ {Machine Memory Place Form : Type 0} (rules : Rules Memory Place) (prog
       puts_twin n leads own_code form_code old new x pushed is_thread label n_fits is =
           let u = one_step merge c s n t (one_turned merge s c s_fits c_fits one) leads in
           let u_fits = step_fits rules program s s_fits lawful t u.0 u.1 in
-          puts_next (machine_of rules program) (IsFindingOf rules program) s
-          (label_by own_code form_code form_of merge) t old new x u.0 u.1 pushed is_thread
-          (label ∙ one_label own_code form_code merge n u.0 n_fits u_fits u.2)
-          (one_found merge n u.0 n_fits u_fits u.2 x.finding is) u_fits
+          rw u.1 (
+            x,
+            pushed,
+            is_thread,
+            label ∙ one_label own_code form_code merge n u.0 n_fits u_fits u.2,
+            one_found merge n u.0 n_fits u_fits u.2 x.finding is,
+            u_fits,
+          )
 
       -- where c has no step, s has none
       pub puts_none : (label_of : State Machine Memory Place Form → List ℕ)

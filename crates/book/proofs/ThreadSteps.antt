@@ -10,7 +10,7 @@ use Rattle.book.specs.Entries.{Successor}
 use Rattle.book.specs.Law.{IsExpansion}
 use Rattle.book.specs.Labels.{steps_of}
 use Rattle.book.specs.ByLabel.{AreStepsOf}
-use Rattle.book.specs.Expanding.{Puts, PutsStep}
+use Rattle.book.specs.Expanding.{Puts}
 use Rattle.book.proofs.Lists.{all_pushed}
 
 pub range-more : (a n : ℕ) → range_with_len a (n + 1) ≡ range_with_len a n ++ (a + n) ∷ []
@@ -65,13 +65,6 @@ module _ {S : Type 0} (m : StepMachine S) (right : S → Finding → Type 0) (s 
     findings = all_pushed (λ y. right y.state y.finding) xs x front.findings is;
     fit = all_pushed (λ y. m.Fits y.state) xs x front.fit fits;
   }
-
-  -- what is put of a step, where the thread has one
-  pub puts_next : {T : Type 0} (put_as : S → T) (t : ℕ) (old new : List (Successor T)) (x : Successor T) (next : S)
-      → m.step s t ≡ Some next → new ≡ old ++ x ∷ [] → x.thread ≡ t → x.state ≡ put_as next → right next x.finding
-      → m.Fits next → PutsStep m right put_as s t old new
-  puts_next put_as t old new x next leads pushed is_thread is_state is fits =
-      rw leads (x, pushed, is_thread, is_state, is, fits)
 
   -- the step of the next thread, as far as it has one
   pub front_put : (old new : List (Successor S)) (o : Option S) → m.step s m.threads ≡ o → IsExpansion m right s old

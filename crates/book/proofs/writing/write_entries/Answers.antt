@@ -26,6 +26,7 @@ loop-index-preserved g c =
 pub returns : goal.returns
 returns g c =
     let entries = c.args.table.now.entries in
-    let done : length entries ≤ c.loop-index.index = omega (arith, c.loop-index-test.false, c.len-index-end.ensures) in
+    let done : length entries ≤ c.loop-index.index =
+    omega (arith, c.loop-index-test.false, c.len-index-end.ensures) in
     written_all entries c.loop-index.text.items c.requires.some c.requires.bounded
     (rw (take_all c.loop-index.index entries done) at c.loop-index.invariant)
