@@ -5,7 +5,7 @@ use Rattle.std.proofs.Common.{inl, inr, slice_set, get_or, append-nil, eq-eqb}
 use Rattle.std.specs.Prelude.{IfSome, option_and_then}
 use Rattle.std.specs.Option.{option_or}
 use Rattle.std.proofs.lemmas.Option.{get_or_from_slice_get, slice_get_within}
-use Rattle.std.proofs.lemmas.Bool.{cases_Bool, ne_eqb}
+use Rattle.std.proofs.lemmas.Bool.{cases_Bool, cases_eq, ne_eqb}
 use Rattle.sched_program.specs.Program.{Program, op_at}
 use Rattle.sched_program.specs.Name.{same_name, value_at}
 use Rattle.sched_program.specs.History.{History, reply}
@@ -20,7 +20,7 @@ use Rattle.tree_machine.specs.declared.machine.Outcome.{Outcome}
 use Rattle.tree_machine.specs.declared.machine.Outcome.TheVariants.{Goes, Replies, Astray}
 use Rattle.tree_machine.specs.declared.state.Thread.{Thread}
 use Rattle.tree_machine.specs.declared.state.State.{State}
-use Rattle.tree_machine.proofs.Lists.{get-append_left, get-set_same, map-get}
+use Rattle.tree_machine.proofs.Lists.{get-append_left, get-set_other, get-set_same, map-get}
 use Rattle.tree_machine.specs.Alike.{notes_of, replies_of}
 use Rattle.std.specs.Option.{option_to_list}
 use Rattle.std.proofs.lemmas.List.{map-set}
@@ -93,12 +93,11 @@ module _ {V : Type 0} where
   -- what has a value still has it once one thread's list is longer
   grown_stated : (all : List (List V)) (u i j : ℕ) (xs more : List V) (v : V) → slice_get all u ≡ Some xs
       → value_in all i j ≡ Some v → value_in (slice_set all u (xs ++ more)) i j ≡ Some v
-  grown_stated [] u i j xs more v at h = cc
-  grown_stated (ys ∷ all) zero zero j xs more v at h =
-      let same : ys ≡ xs = cc in get-append_left xs more j v (rw same at h)
-  grown_stated (ys ∷ all) zero (suc i) j xs more v at h = h
-  grown_stated (ys ∷ all) (suc u) zero j xs more v at h = h
-  grown_stated (ys ∷ all) (suc u) (suc i) j xs more v at h = grown_stated all u i j xs more v at h
+  grown_stated all u i j xs more v at h = elim (cases_eq i u) [
+    | inl e ↦ rw (e, get-set_same all u (xs ++ more) (slice_get_within all u xs at))
+        (get-append_left xs more j v (rw (e, at) at h))
+    | inr ne ↦ rw (get-set_other all u i (xs ++ more) ne) h
+  ]
 
   pub grown_value : (all : List (List V)) (u : ℕ) (xs more : List V) (a : OpId) (v : V) → slice_get all u ≡ Some xs
       → value_at (all_named 0 all) a ≡ Some v → value_at (all_named 0 (slice_set all u (xs ++ more))) a ≡ Some v

@@ -6,7 +6,7 @@ use Rattle.std.proofs.lemmas.List.{append_cancel_left}
 use Rattle.sched_program.specs.Laws.Exact.{nat_exact, list_exact}
 use Rattle.sched_program.specs.Program.{Program, IsWithinLimits}
 use Rattle.tree_machine.specs.Rules.{Rules, AreLawful, AreFormsExact}
-use Rattle.tree_machine.specs.Alike.{FormContent, state_form}
+use Rattle.tree_machine.specs.Alike.{FormContent}
 use Rattle.tree_machine.specs.Flat.{number_code}
 use Rattle.tree_machine.specs.FormCode.{IsInjective, content_code, state_code}
 use Rattle.tree_machine.specs.Laws.CellOrder.{nat_equivalence}
@@ -53,12 +53,6 @@ module _ {Machine Memory Place Form : Type 0} (rules : Machine → Rules Memory 
   equal_labels : (merge : Merge) (r s : S) → same_as (label merge) r s ≡ true → label merge r ≡ label merge s
   equal_labels merge r s same = list_exact nat_exact (label merge r) (label merge s) same
 
-  named_forms : (r s : S) → label Names r ≡ label Names s
-      → state_form (form_of machine) r ≡ state_form (form_of machine) s
-  named_forms r s same =
-      content_readable form_code by_form (state_form (form_of machine) r) (state_form (form_of machine) s)
-      (append_cancel_left (number_code 0) _ _ same)
-
   -- states of the program have the same label exactly where they are equal, or alike
   counts_by : (merge : Merge) → Agree m (AreOneBy (same_as (label merge))) (CountsAsOne (rules machine) merge)
   counts_by Exact r s r_fits s_fits = (
@@ -67,7 +61,8 @@ module _ {Machine Memory Place Form : Type 0} (rules : Machine → Rules Memory 
   )
   counts_by Names r s r_fits s_fits =
       let alike = forms_alike (rules machine) (form_of machine) forms program program r s r_fits s_fits in (
-        λ same. alike.0 (named_forms r s (equal_labels Names r s same)),
+        λ same. alike.0 (content_readable form_code by_form _ _
+            (append_cancel_left (number_code 0) _ _ (equal_labels Names r s same))),
         λ are. subst (λ (f : FormContent Form).
             same_label (label Names r) (number_code 0 ++ content_code form_code f) ≡ true) (alike.1 are)
             (labels.refl (label Names r)),

@@ -10,13 +10,11 @@ use Rattle.tree_machine.specs.declared.state.State.{State}
 use Rattle.book.specs.declared.book.Entered.{Entered}
 use Rattle.book.specs.declared.book.EnterFault.{EnterFault}
 use Rattle.book.specs.declared.book.EnterFault.TheVariants.{Full, OutOfMemory}
-use Rattle.replay.specs.declared.finding.Finding.{Finding}
 use Rattle.book.specs.Books.{machine_in, right_in, CountsAsOne, HoldsSteps}
 use Rattle.book.specs.ByLabel.{expansion_of, AreStepsOf, ExpandedView, IsEntryOf, IsExpandedOf, RefusesEntry}
 use Rattle.book.specs.Entries.{At, Contents, Enters, Entry, IsFullFor, IsOwn, IsTaken, Refuses, Steps, Successor}
 use Rattle.book.specs.Labels.{label_by, labelled, steps_of}
 use Rattle.book.specs.Law.{IsExpansion}
-use Rattle.replay.specs.Schedule.{StepMachine}
 use Rattle.book.proofs.Lists.{map-map}
 
 -- the steps of a state that are labelled are its steps
@@ -28,15 +26,6 @@ steps_back step s label_of ys leads =
     ∙ map_fixed _ ys (λ k d less.
     let one = get_at ys k less in
     rw (get_or_from_slice_get ys k one.0 d one.1, leads k one.0 one.1) refl)
-
-are_steps : {S : Type 0} (m : StepMachine S) (right : S → Finding → Type 0) (label_of : S → List ℕ) (s : S)
-    (ys : List (Successor S)) → IsExpansion m right s ys → AreStepsOf m right label_of s (map (labelled label_of) ys)
-are_steps m right label_of s ys expansion =
-    let back = steps_back m.step s label_of ys expansion.steps in
-    record {
-      expansion = rw back expansion;
-      labels = rw back refl;
-    }
 
 -- a refusal for memory, or for room that the steps need, is one of what the steps are of
 refused_by : {Needs : Type 0} (Refused : EnterFault → Type 0) (answer : Result Entered EnterFault)
@@ -89,12 +78,12 @@ module _ {Machine Memory Place Form : Type 0} (rules : Machine → Rules Memory 
     labelled_here : steps ≡ map (labelled label_here) x.successors
     labelled_here = rw (← own.machine) are
 
-    pub own_steps : AreStepsOf (machine_in rules b) (right_in rules b) label_here e.state steps
-    own_steps = rw labelled_here (are_steps _ (right_in rules b) label_here e.state x.successors expansion_here)
-
     own_successors : steps_of (machine_in rules b).step e.state steps ≡ x.successors
     own_successors = rw labelled_here
         (steps_back (machine_in rules b).step e.state label_here x.successors expansion_here.steps)
+
+    pub own_steps : AreStepsOf (machine_in rules b) (right_in rules b) label_here e.state steps
+    own_steps = record { expansion = rw own_successors expansion_here; labels = rw own_successors labelled_here }
 
     -- what putting them in answers is what entering the expansion does
     pub entered_own : (new : Contents Machine (State Machine Memory Place Form)) (answer : Result Entered EnterFault)

@@ -1,6 +1,6 @@
 -- The steps of a taken entry are inserted, and it is marked expanded: what follows for the book.
 use Rattle.std.proofs.Common.{◌≡◌, ℕ, suc, ◌+◌, ◌-◌, ◌^◌, ◌<◌, ◌≤◌, inl, inr, Bool, Some, IsSome}
-use Rattle.std.proofs.Common.{Option, List, [], ◌∷◌, ◌++◌, length, map, refl, sym, ◌∙◌, arith, slice_get}
+use Rattle.std.proofs.Common.{List, [], ◌∷◌, ◌++◌, length, map, refl, sym, ◌∙◌, arith, slice_get}
 use Rattle.std.proofs.Common.{length-append}
 use Rattle.std.specs.List.{All}
 use Rattle.std.proofs.lemmas.Bool.{cond_both}
@@ -41,14 +41,6 @@ module _ {S : Type 0} (m : StepMachine S) (same : S → S → Bool) (Same : S �
         (rest, refl, are_new (known ++ x.state ∷ []) more xs (λ k. fits (suc k))),
       ))
 
--- steps that lead somewhere are those of enabled threads
-steps_enabled : {S : Type 0} (step : S → ℕ → Option S) (s : S) (xs : List (Successor (List ℕ)))
-    → ((k : ℕ) (y : Successor S) → slice_get (steps_of step s xs) k ≡ Some y → step s y.thread ≡ Some y.state)
-    → All (λ x. IsSome (step s x.thread)) xs
-steps_enabled step s xs leads k d less =
-    let one = get_at xs k less in
-    rw (get_or_from_slice_get xs k one.0 d one.1, leads k _ (map-get _ xs k one.0 one.1)) refl
-
 module _ {Machine Memory Place Form : Type 0} {rules : Machine → Rules Memory Place}
     {label_of : State Machine Memory Place Form → List ℕ} {b : Contents Machine (State Machine Memory Place Form)}
     (book : IsBook rules label_of b) (i : ℕ) (e : Entry (State Machine Memory Place Form)) (at : At b.entries i e)
@@ -64,8 +56,11 @@ module _ {Machine Memory Place Form : Type 0} {rules : Machine → Rules Memory 
   abbrev news : List (Successor (State Machine Memory Place Form))
   news = unknown same (states b.entries) ys
 
+  -- they lead somewhere, so their threads are enabled
   pub here_enabled : All (λ x. IsSome ((machine_in rules b).step e.state x.thread)) xs
-  here_enabled = steps_enabled (machine_in rules b).step e.state xs steps.expansion.steps
+  here_enabled k d less =
+      let one = get_at xs k less in
+      rw (get_or_from_slice_get xs k one.0 d one.1, steps.expansion.steps k _ (map-get _ xs k one.0 one.1)) refl
 
   news_are : AreNew (CountsAsOne (rules b.machine) b.merge) (states b.entries) ys news
   news_are =

@@ -31,8 +31,7 @@ loop-one-preserved g c =
 pub returns-clause-put : goal.returns-clause-put
 returns-clause-put g c =
     let all =
-    all_drained c.args.steps.items c.loop-one.yielded c.args.steps.len c.next.result
-    c.into_iter-one-iterator.result c.loop-one.one-iterator c.next.new.self c.args.steps.ok.0
+    all_drained c.args.steps.items c.loop-one.yielded c.args.steps.len _ _ _ c.next.new.self c.args.steps.ok.0
     (ap drain_items c.into_iter-one-iterator.ensures.into_iter_gives ∙ c.drain-one-items.ensures.rest)
     c.loop-one.yielded_by c.in-None.is c.next.ensures.steps in
     rw all at c.loop-one.invariant.put

@@ -22,11 +22,9 @@ pub first_fault_from-self-inside-requires : goal.first_fault_from-self-inside-re
 first_fault_from-self-inside-requires g c =
     let s = c.self.inside in
     let some = appended_some s.slots.entries _ c.args.parent _ c.put_steps.ensures.kept c.in-Ok.ensures.put in
-    let l = length-entries s.slots.entries in
-    let n = c.len-was.ensures.len in
     λ i e at less. all_sound (entries_of s.slots.entries) (map (opened c.args.parent) some.0)
     (sym c.self.invariant.first_fault ∙ none_of s.fault c.if-is_none.ensures)
-    i e (rw some.1 at at) (omega (arith, l, n))
+    i e (rw some.1 at at) (omega (arith, length-entries s.slots.entries, c.len-was.ensures.len))
 
 pub invariant_of-self-then-is_none : goal.invariant_of-self-then-is_none
 invariant_of-self-then-is_none g c =
