@@ -81,13 +81,13 @@ module _ {Machine Memory Place Form : Type 0} {rules : Machine → Rules Memory 
     longer = rw (put, length-append, length-map) refl
 
     -- the number of entries does not fall: one is added for each unknown step
-    pub grown : was ≤ len
+    grown : was ≤ len
     grown = omega (arith, longer)
 
     entered_count : len - was ≡ length news
     entered_count = omega (arith, longer)
 
-    pub entered_bounded : len - was ≤ n
+    entered_bounded : len - was ≤ n
     entered_bounded =
         entered_within (machine_in rules b) same (right_in rules b) book.machine book.merges b book.law i e at taken ys
         steps.expansion appended put (len - was) was len n refl was_is len_is all_steps
@@ -95,15 +95,16 @@ module _ {Machine Memory Place Form : Type 0} {rules : Machine → Rules Memory 
     entered_each : (len - was) + (n - (len - was)) ≡ length ys
     entered_each = omega (arith, entered_bounded, all_steps)
 
-    pub is_taken_still : IsTaken appended i
-    is_taken_still =
-        still_taken (machine_in rules b) same (right_in rules b) book.machine book.merges b book.law i e at taken ys
-        steps.expansion appended put
-
-    pub met_is_small : b.met + (n - (len - was)) < 2 ^ 64
-    met_is_small =
-        small_met (machine_in rules b) same (right_in rules b) book.machine book.merges b book.law i e at taken ys
-        steps.expansion appended put (n - (len - was)) (omega (arith, all_steps))
+    -- the counts fit their types, and the entry is taken still
+    pub counts_fit : (was ≤ len) × (len - was ≤ n) × IsTaken appended i × (b.met + (n - (len - was)) < 2 ^ 64)
+    counts_fit = (
+      grown,
+      entered_bounded,
+      still_taken (machine_in rules b) same (right_in rules b) book.machine book.merges b book.law i e at taken ys
+          steps.expansion appended put,
+      small_met (machine_in rules b) same (right_in rules b) book.machine book.merges b book.law i e at taken ys
+          steps.expansion appended put (n - (len - was)) (omega (arith, all_steps)),
+    )
 
     module _ (new : List (Entry (State Machine Memory Place Form))) (marked : new ≡ with_mark appended i Expanded)
         (room : length appended ≤ b.limit) where

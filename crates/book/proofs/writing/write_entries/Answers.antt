@@ -21,7 +21,8 @@ loop-index-preserved g c =
     let entries = c.args.table.now.entries in
     let w = c.in_ok-push_row.ensures in
     written_next (length entries) entries c.loop-index.index c.in-Some.row.now w.0 c.loop-index.text.items
-    c.push_row.new.text.items (sym c.in-Some.ensures) (omega (arith, c.loop-index.auto.index)) w.1 w.2 w.3 c.loop-index.invariant
+    c.push_row.new.text.items (sym c.in-Some.ensures) (omega (arith, c.loop-index.auto.index)) w.1 w.2 w.3
+    c.loop-index.invariant
 
 pub returns : goal.returns
 returns g c =
