@@ -27,9 +27,7 @@ use Rattle.book.proofs.Marks.{open_passes}
 -- ---- marks
 range_next : (a i : ℕ) → a ≤ i → range_with_len a (i + 1 - a) ≡ range_with_len a (i - a) ++ i ∷ []
 range_next a i le =
-    let more : i + 1 - a ≡ i - a + 1 = omega arith in
-    let here : a + (i - a) ≡ i = omega arith in
-    rw (more, range-more a (i - a), here) refl
+    let more : i + 1 - a ≡ i - a + 1 = omega arith in rw more (range-more a (i - a) i (omega arith))
 
 module _ {S : Type 0} where
   marks-push : (es : List (Entry S)) (is : List ℕ) (i : ℕ) (k : Mark)
@@ -44,7 +42,7 @@ module _ {S : Type 0} where
   marks_more old mid new a i j k so_far marked le next =
       rw (marked, so_far, next, range_next a i le, marks-push) refl
 
-  pub length-with_marks : (es : List (Entry S)) (is : List ℕ) (k : Mark) → length (with_marks es is k) ≡ length es
+  length-with_marks : (es : List (Entry S)) (is : List ℕ) (k : Mark) → length (with_marks es is k) ≡ length es
   length-with_marks es [] k = refl
   length-with_marks es (i ∷ is) k = length-with_marks (with_mark es i k) is k ∙ length-with_mark es i k
 

@@ -1,8 +1,9 @@
 -- The steps of a state are taken thread by thread.
-use Rattle.std.proofs.Common.{◌≡◌, ℕ, zero, suc, ◌+◌, cond, Option, Some, None, is_some, List, [], ◌∷◌, ◌++◌}
-use Rattle.std.proofs.Common.{refl, ap, arith, append-nil}
+use Rattle.std.proofs.Common.{◌≡◌, ℕ, ◌+◌, cond, Option, Some, None, is_some, List, [], ◌∷◌, ◌++◌}
+use Rattle.std.proofs.Common.{refl, arith, append-nil}
 use Rattle.std.specs.List.{range_with_len}
-use Rattle.std.proofs.lemmas.List.{map_push}
+use Rattle.std.proofs.lemmas.List.{map-id, map_push}
+use Rattle.std.proofs.lemmas.List.FromFn.{map-range_with_len_more}
 use Rattle.std.proofs.lemmas.List.Elements.{filter-append}
 use Rattle.replay.specs.declared.finding.Finding.{Finding}
 use Rattle.replay.specs.Schedule.{StepMachine, enabled_threads}
@@ -13,12 +14,8 @@ use Rattle.book.specs.ByLabel.{AreStepsOf}
 use Rattle.book.specs.Expanding.{Puts}
 use Rattle.book.proofs.Lists.{all_pushed}
 
-pub range-more : (a n : ℕ) → range_with_len a (n + 1) ≡ range_with_len a n ++ (a + n) ∷ []
-range-more a zero = let e : a + 0 ≡ a = omega arith in rw e
-range-more a (suc n) =
-    let e : suc n + 1 ≡ suc (n + 1) = omega arith in
-    let f : a + 1 + n ≡ a + suc n = omega arith in
-    rw (e, ← f) (ap (λ xs. a ∷ xs) (range-more (a + 1) n))
+pub range-more : (a n j : ℕ) → a + n ≡ j → range_with_len a (n + 1) ≡ range_with_len a n ++ j ∷ []
+range-more a n j is = simp map-id at (map-range_with_len_more (λ (x : ℕ). x) a n j is)
 
 module _ {S : Type 0} (m : StepMachine S) (right : S → Finding → Type 0) (s : S) where
   -- without threads there are no steps
@@ -40,8 +37,7 @@ module _ {S : Type 0} (m : StepMachine S) (right : S → Finding → Type 0) (s 
   filter_more : enabled_threads wider s
       ≡ enabled_threads m s ++ cond (is_some (m.step s m.threads)) (m.threads ∷ []) []
   filter_more =
-      let e : 0 + m.threads ≡ m.threads = omega arith in
-      rw (range-more 0 m.threads, e)
+      rw (range-more 0 m.threads m.threads (omega arith))
       (filter-append (λ t. is_some (m.step s t)) (range_with_len 0 m.threads) (m.threads ∷ []))
 
   -- a thread that is not enabled adds none

@@ -1,3 +1,4 @@
+-- The first table holds the start alone, under its label.
 use Rattle.book.proofs.book.first_table.Goals as goal
 
 pub returns : goal.returns

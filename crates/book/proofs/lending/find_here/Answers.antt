@@ -1,7 +1,6 @@
 -- A step that ended no operation leaves the order as it was, and one that ended the last operation extends it.
-use Rattle.std.proofs.Common.{Some, slice_get, length, ap, sym, ◌∙◌}
+use Rattle.std.proofs.Common.{Some, ap, sym, ◌∙◌}
 use Rattle.std.proofs.lemmas.Option.{same_Some}
-use Rattle.tree_machine.specs.declared.state.Thread.{Thread}
 use Rattle.book.proofs.Answered.{step_replied}
 use Rattle.book.proofs.Loans.{step_silent}
 use Rattle.book.proofs.lending.find_here.Goals as goal
@@ -16,9 +15,8 @@ returns-in_default-reply_since-clause-none g c =
       shown.1,
       step_silent (g.M.Machine.rules c.args.machine) c.args.program.now c.args.from.now.state.now.value
           c.args.next.now c.args.from.now.thread c.requires.step
-          (λ a b at_a at_b. ap (λ (x : Thread g.row.M-Loc.Denot). slice_get b.replies (length x.replies))
-          (same_Some _ _ (sym at_a ∙ c.requires.back.was) ∙ sym c.thread.ensures)
-          ∙ c.in_default-reply_since.ensures b at_b) c.args.order.now c.requires.sound.2,
+          (λ a b at_a at_b. rw (same_Some _ _ (sym at_a ∙ c.requires.back.was), ← c.thread.ensures)
+          (c.in_default-reply_since.ensures b at_b)) c.args.order.now c.requires.sound.2,
     )
 
 pub returns-clause-some : goal.returns-clause-some

@@ -1,3 +1,4 @@
+-- The row of a step is inserted, or its label was there.
 use Rattle.tree_machine.specs.Step.{step}
 use Rattle.book.proofs.Lists.{grown_front, grown_same}
 use Rattle.book.proofs.SlotLemmas.{no_steps, one_step, put_step}

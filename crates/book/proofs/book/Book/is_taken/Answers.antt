@@ -1,3 +1,4 @@
+-- An entry is taken exactly where its row says so.
 use Rattle.std.proofs.Common.{refl, sym, ◌∙◌}
 use Rattle.std.proofs.lemmas.Option.{same_Some}
 use Rattle.book.proofs.Marks.{taken_from}

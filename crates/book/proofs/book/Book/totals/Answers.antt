@@ -1,3 +1,4 @@
+-- Each entry is open, taken or expanded.
 use Rattle.book.proofs.EntryLemmas.{count_marks}
 use Rattle.book.proofs.book.Book.totals.Goals as goal
 
