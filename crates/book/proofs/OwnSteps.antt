@@ -17,16 +17,6 @@ use Rattle.book.specs.Labels.{label_by, labelled, steps_of}
 use Rattle.book.specs.Law.{IsExpansion}
 use Rattle.book.proofs.Lists.{map-map}
 
--- the steps of a state that are labelled are its steps
-steps_back : {S : Type 0} (step : S → ℕ → Option S) (s : S) (label_of : S → List ℕ) (ys : List (Successor S))
-    → ((k : ℕ) (y : Successor S) → slice_get ys k ≡ Some y → step s y.thread ≡ Some y.state)
-    → steps_of step s (map (labelled label_of) ys) ≡ ys
-steps_back step s label_of ys leads =
-    map-map _ (labelled label_of) ys
-    ∙ map_fixed _ ys (λ k d less.
-    let one = get_at ys k less in
-    rw (get_or_from_slice_get ys k one.0 d one.1, leads k one.0 one.1) refl)
-
 -- a refusal for memory, or for room that the steps need, is one of what the steps are of
 refused_by : {Needs : Type 0} (Refused : EnterFault → Type 0) (answer : Result Entered EnterFault)
     → IfErr answer (λ fault. (fault ≡ OutOfMemory) ⊎ ((fault ≡ Full) × Needs)) → Refused OutOfMemory
@@ -78,9 +68,12 @@ module _ {Machine Memory Place Form : Type 0} (rules : Machine → Rules Memory 
     labelled_here : steps ≡ map (labelled label_here) x.successors
     labelled_here = rw (← own.machine) are
 
+    -- the steps that are labelled are its steps
     own_successors : steps_of (machine_in rules b).step e.state steps ≡ x.successors
-    own_successors = rw labelled_here
-        (steps_back (machine_in rules b).step e.state label_here x.successors expansion_here.steps)
+    own_successors =
+        rw (labelled_here, map-map) (map_fixed _ x.successors (λ k d less.
+        let one = get_at x.successors k less in
+        rw (get_or_from_slice_get x.successors k one.0 d one.1, expansion_here.steps k one.0 one.1) refl))
 
     pub own_steps : AreStepsOf (machine_in rules b) (right_in rules b) label_here e.state steps
     own_steps = record { expansion = rw own_successors expansion_here; labels = rw own_successors labelled_here }
