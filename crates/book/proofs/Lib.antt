@@ -16,7 +16,7 @@ mod ThreadSteps
 mod SlotLemmas
 mod Labels
 mod Cursors
-mod Left
+mod Lists
 mod Draining
 mod StandingIn
 pub mod Machines

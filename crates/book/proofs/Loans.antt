@@ -1,11 +1,11 @@
 -- An order that a state lends to a step that ended no operation.
-use Rattle.std.proofs.Common.{◌≡◌, ℕ, zero, suc, ◌+◌, ◌<◌, ◌≢◌, Bool, true, false, cond, Option, Some}
+use Rattle.std.proofs.Common.{◌≡◌, ℕ, zero, suc, ◌+◌, ◌<◌, ◌≢◌, Bool, Option, Some}
 use Rattle.std.proofs.Common.{None, IsSome, List, [], ◌∷◌, ◌++◌, length, refl, sym, ap, ◌∙◌, arith, slice_get}
-use Rattle.std.proofs.Common.{slice_set, get_or, subst, append-nil, ap₂, ◌==◌, eqb-true, eq-eqb}
+use Rattle.std.proofs.Common.{inl, inr, slice_set, get_or, append-nil, eq-eqb}
 use Rattle.std.specs.Prelude.{IfSome, option_and_then}
 use Rattle.std.specs.Option.{option_or}
 use Rattle.std.proofs.lemmas.Option.{get_or_from_slice_get, slice_get_within}
-use Rattle.std.proofs.lemmas.Bool.{true≢false, false_from_ne_true}
+use Rattle.std.proofs.lemmas.Bool.{cases_Bool, cases_eq, ne_eqb}
 use Rattle.sched_program.specs.Program.{Program, op_at}
 use Rattle.sched_program.specs.Name.{same_name, value_at}
 use Rattle.sched_program.specs.History.{History, reply}
@@ -20,12 +20,13 @@ use Rattle.tree_machine.specs.declared.machine.Outcome.{Outcome}
 use Rattle.tree_machine.specs.declared.machine.Outcome.TheVariants.{Goes, Replies, Astray}
 use Rattle.tree_machine.specs.declared.state.Thread.{Thread}
 use Rattle.tree_machine.specs.declared.state.State.{State}
-use Rattle.tree_machine.proofs.Lists.{get-append_left, get-set_same, map-get}
+use Rattle.tree_machine.proofs.Lists.{get-append_left, get-set_other, get-set_same, map-get}
 use Rattle.tree_machine.specs.Alike.{notes_of, replies_of}
 use Rattle.std.specs.Option.{option_to_list}
 use Rattle.std.proofs.lemmas.List.{map-set}
 use Rattle.std.proofs.Math.Seq.{map-set_same}
 use Rattle.tree_machine.proofs.States.{step_parts}
+use Rattle.book.proofs.Lent.{some_value}
 
 -- ---- values beside names
 abbrev pub value_in : {V : Type 0} → List (List V) → ℕ → ℕ → Option V
@@ -42,19 +43,16 @@ module _ {V : Type 0} where
   value_at-append : (xs ys : List (OpId × V)) (a : OpId)
       → value_at (xs ++ ys) a ≡ option_or (value_at xs a) (value_at ys a)
   value_at-append [] ys a = refl
-  value_at-append (x ∷ xs) ys a = by (same_name x.0 a) (value_at-append xs ys a)
-    where
-      by : (b : Bool) → value_at (xs ++ ys) a ≡ option_or (value_at xs a) (value_at ys a)
-          → cond b (Some x.1) (value_at (xs ++ ys) a) ≡ option_or (cond b (Some x.1) (value_at xs a)) (value_at ys a)
-      by true again = refl
-      by false again = again
+  value_at-append (x ∷ xs) ys a = elim (cases_Bool (same_name x.0 a)) [
+    | inl t ↦ rw t refl
+    | inr f ↦ rw f (value_at-append xs ys a)
+  ]
 
   -- the names of a thread's operations are no other thread's
   named_apart : (t i : ℕ) (xs : List V) (u j : ℕ) → u ≢ t → value_at (named t i xs) (name u j) ≡ None
   named_apart t i [] u j apart = refl
   named_apart t i (x ∷ xs) u j apart =
-      let other : (t == u) ≡ false = false_from_ne_true (t == u) (λ e. apart (sym (eqb-true t u e))) in
-      rw other (named_apart t (i + 1) xs u j apart)
+      rw (ne_eqb t u (λ e. apart (sym e))) (named_apart t (i + 1) xs u j apart)
 
   all_apart : (t : ℕ) (all : List (List V)) (u j : ℕ) → u < t → value_at (all_named t all) (name u j) ≡ None
   all_apart t [] u j below = refl
@@ -69,30 +67,25 @@ module _ {V : Type 0} where
   value_named : (t i k j : ℕ) (xs : List V) → j ≡ i + k → value_at (named t i xs) (name t j) ≡ slice_get xs k
   value_named t i k j [] is = refl
   value_named t i zero j (x ∷ xs) is =
-      let here : same_name (name t i) (name t j) ≡ true = rw (eq-eqb t t refl, eq-eqb i j (omega arith)) refl in
-      ap (λ b. cond b (Some x) (value_at (named t (i + 1) xs) (name t j))) here
+      rw (eq-eqb t t refl, eq-eqb i j (omega arith)) refl
   value_named t i (suc k) j (x ∷ xs) is =
-      let apart : (i == j) ≡ false =
-      false_from_ne_true (i == j) (λ e. let q : i ≡ j = eqb-true i j e in omega arith) in
-      let other : same_name (name t i) (name t j) ≡ false = rw (eq-eqb t t refl, apart) refl in
-      ap (λ b. cond b (Some x) (value_at (named t (i + 1) xs) (name t j))) other
-      ∙ value_named t (i + 1) k j xs (omega arith)
+      rw (eq-eqb t t refl, ne_eqb i j (λ (e : i ≡ j). omega arith)) (value_named t (i + 1) k j xs (omega arith))
 
   value_all : (t u s i : ℕ) (all : List (List V)) → s ≡ t + u
       → value_at (all_named t all) (name s i) ≡ value_in all u i
   value_all t u s i [] is = refl
   value_all t zero s i (xs ∷ all) is =
-      let same : t ≡ s = omega arith in
-      value_at-append (named t 0 xs) (all_named (t + 1) all) (name s i)
-      ∙ ap₂ option_or
-      (subst (λ n. value_at (named t 0 xs) (name n i) ≡ slice_get xs i) same (value_named t 0 i i xs (omega arith)))
-      (all_apart (t + 1) all s i (omega arith))
-      ∙ or_none (slice_get xs i)
+      let same : s ≡ t = omega arith in
+      rw (
+        same,
+        value_at-append (named t 0 xs),
+        value_named t 0 i i xs (omega arith),
+        all_apart (t + 1) all t i (omega arith),
+      )
+      (or_none (slice_get xs i))
   value_all t (suc u) s i (xs ∷ all) is =
-      value_at-append (named t 0 xs) (all_named (t + 1) all) (name s i)
-      ∙ ap (λ o. option_or o (value_at (all_named (t + 1) all) (name s i)))
-      (named_apart t 0 xs s i (λ (e : s ≡ t). omega arith))
-      ∙ value_all (t + 1) u s i all (omega arith)
+      rw (value_at-append (named t 0 xs), named_apart t 0 xs s i (λ (e : s ≡ t). omega arith))
+      (value_all (t + 1) u s i all (omega arith))
 
   pub value_from_start : (u i : ℕ) (all : List (List V)) → value_at (all_named 0 all) (name u i) ≡ value_in all u i
   value_from_start u i all = value_all 0 u u i all (omega arith)
@@ -100,28 +93,23 @@ module _ {V : Type 0} where
   -- what has a value still has it once one thread's list is longer
   grown_stated : (all : List (List V)) (u i j : ℕ) (xs more : List V) (v : V) → slice_get all u ≡ Some xs
       → value_in all i j ≡ Some v → value_in (slice_set all u (xs ++ more)) i j ≡ Some v
-  grown_stated [] u i j xs more v at h = absurd (let q : None ≡ Some xs = at in cc)
-  grown_stated (ys ∷ all) zero zero j xs more v at h =
-      let same : ys ≡ xs = cc in get-append_left xs more j v (subst (λ zs. slice_get zs j ≡ Some v) same h)
-  grown_stated (ys ∷ all) zero (suc i) j xs more v at h = h
-  grown_stated (ys ∷ all) (suc u) zero j xs more v at h = h
-  grown_stated (ys ∷ all) (suc u) (suc i) j xs more v at h = grown_stated all u i j xs more v at h
+  grown_stated all u i j xs more v at h = elim (cases_eq i u) [
+    | inl e ↦ rw (e, get-set_same all u (xs ++ more) (slice_get_within all u xs at))
+        (get-append_left xs more j v (rw (e, at) at h))
+    | inr ne ↦ rw (get-set_other all u i (xs ++ more) ne) h
+  ]
 
   pub grown_value : (all : List (List V)) (u : ℕ) (xs more : List V) (a : OpId) (v : V) → slice_get all u ≡ Some xs
       → value_at (all_named 0 all) a ≡ Some v → value_at (all_named 0 (slice_set all u (xs ++ more))) a ≡ Some v
   grown_value all u xs more a v at h =
-      value_from_start a.thread a.index (slice_set all u (xs ++ more))
-      ∙ grown_stated all u a.thread a.index xs more v at (sym (value_from_start a.thread a.index all) ∙ h)
+      rw (value_from_start a.thread a.index (slice_set all u (xs ++ more)))
+      (grown_stated all u a.thread a.index xs more v at (rw (value_from_start a.thread a.index all) at h))
 
 -- the value that is appended, or none, stands behind the others
 pub pushed_there : {X : Type 0} (xs : List X) (o : Option X) → slice_get (xs ++ option_to_list o) (length xs) ≡ o
 pushed_there [] None = refl
 pushed_there [] (Some x) = refl
 pushed_there (y ∷ xs) o = pushed_there xs o
-
-some_value : {X : Type 0} (o : Option X) → IsSome o → (x : X) × (o ≡ Some x)
-some_value None h = absurd (true≢false (sym h))
-some_value (Some x) h = (x, refl)
 
 -- ---- a linearization of one history is one of another, with the same replies, that knows what the first knows of what
 -- began
@@ -131,10 +119,7 @@ module _ (program : Program) (old new : History) (finished : new.finished ≡ ol
       → GivesReplies program new keys order
   gives_still keys [] h = tt
   gives_still keys (a ∷ rest) h =
-      let some =
-      IsSomeAnd-value (op_at program a.thread a.index)
-      (λ o. IfSome (reply old a) (λ r. r ≡ reply_on o keys) × GivesReplies program old (keys_after o keys) rest)
-      h in
+      let some = IsSomeAnd-value (op_at program a.thread a.index) _ h in
       IsSomeAnd-of (op_at program a.thread a.index)
       (λ o. IfSome (reply new a) (λ r. r ≡ reply_on o keys) × GivesReplies program new (keys_after o keys) rest)
       some.0 some.1
@@ -189,11 +174,11 @@ module _ {Machine Memory Place Form : Type 0} (state : State Machine Memory Plac
       → HasGone state.threads t thread (after_access state t begun acted).threads
   has_gone (memory, Goes place) =
       gone_to (record begun { place = Some place }) None (sym (append-nil begun.replies)) refl
-      (λ some. absurd (true≢false (sym some)))
+      (λ some. cc)
   has_gone (memory, Replies reply) =
       gone_to (record begun { replies = begun.replies ++ reply ∷ []; place = None }) (Some reply) refl refl (λ _. refl)
   has_gone (memory, Astray) =
-      gone_to begun None (sym (append-nil begun.replies)) refl (λ some. absurd (true≢false (sym some)))
+      gone_to begun None (sym (append-nil begun.replies)) refl (λ some. cc)
 
 -- what a step makes of its thread
 pub step_gone : {Machine Memory Place Form : Type 0} (rules : Rules Memory Place) (program : Program)

@@ -1,6 +1,6 @@
 -- What the tests of marks say.
 use Rattle.std.proofs.Common.{◌≡◌, ◌≢◌, true, false, not, refl, sym}
-use Rattle.std.proofs.lemmas.Bool.{true≢false}
+use Rattle.std.proofs.lemmas.Bool.{false_from_ne_true, not-false, not_from_false, true≢false}
 use Rattle.book.specs.declared.entry.Mark.{Mark}
 use Rattle.book.specs.declared.entry.Mark.TheVariants.{Open, Taken, Expanded}
 use Rattle.book.specs.Entries.{is_open, is_taken, is_expanded}
@@ -22,13 +22,8 @@ expanded_by Open h = absurd (true≢false (sym h))
 expanded_by Taken h = absurd (true≢false (sym h))
 expanded_by Expanded h = refl
 
-pub left_by : (k : Mark) → is_expanded k ≡ false → k ≢ Expanded
-left_by k h = λ e. true≢false (rw e at h)
-
 pub expanded_from : (k : Mark) → not (is_expanded k) ≡ false → k ≡ Expanded
-expanded_from Open h = absurd (true≢false h)
-expanded_from Taken h = absurd (true≢false h)
-expanded_from Expanded h = refl
+expanded_from k h = expanded_by k (not-false (is_expanded k) h)
 
 pub not_expanded_from : (k : Mark) → not (is_expanded k) ≡ true → k ≢ Expanded
 not_expanded_from k h = λ e. true≢false (sym (rw e at h))
@@ -45,20 +40,10 @@ pub open_passes : (k : Mark) → k ≡ Open → is_open k ≡ true
 open_passes k h = rw h refl
 
 pub open_fails : (k : Mark) → k ≢ Open → is_open k ≡ false
-open_fails Open h = absurd (h refl)
-open_fails Taken h = refl
-open_fails Expanded h = refl
-
-pub open_left : (k : Mark) → k ≡ Open → is_expanded k ≡ false
-open_left k h = rw h refl
-
-pub taken_left : (k : Mark) → k ≡ Taken → is_expanded k ≡ false
-taken_left k h = rw h refl
+open_fails k h = false_from_ne_true (is_open k) (λ e. h (open_from k e))
 
 pub expanded_fails : (k : Mark) → k ≡ Expanded → not (is_expanded k) ≡ false
 expanded_fails k h = rw h refl
 
 pub left_passes : (k : Mark) → k ≢ Expanded → not (is_expanded k) ≡ true
-left_passes Open h = refl
-left_passes Taken h = refl
-left_passes Expanded h = absurd (h refl)
+left_passes k h = not_from_false (is_expanded k) (false_from_ne_true (is_expanded k) (λ e. h (expanded_by k e)))

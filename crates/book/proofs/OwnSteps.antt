@@ -1,41 +1,21 @@
 -- Steps of an entry's own state, as they are entered.
-use Rattle.std.proofs.Common.{◌≡◌, ℕ, suc, ◌⊎◌, inl, inr, Option, Some, Result, Ok, Err, IfOk, IfErr, List, [], ◌∷◌}
-use Rattle.std.proofs.Common.{map, refl, sym, ap, ◌∙◌, slice_get, subst}
-use Rattle.std.specs.Prelude.{unwrap_or}
+use Rattle.std.proofs.Common.{◌≡◌, ℕ, ◌⊎◌, inl, inr, Option, Result, Ok, Err, IfOk, IfErr, List, map, refl}
+use Rattle.std.proofs.Common.{subst}
+use Rattle.std.proofs.lemmas.List.Folds.{map_fixed}
+use Rattle.std.proofs.lemmas.Option.{get_or_from_slice_get}
+use Rattle.tree_machine.proofs.Lists.{get_at}
 use Rattle.tree_machine.specs.Rules.{Rules}
 use Rattle.tree_machine.specs.Step.{Fits}
 use Rattle.tree_machine.specs.declared.state.State.{State}
 use Rattle.book.specs.declared.book.Entered.{Entered}
 use Rattle.book.specs.declared.book.EnterFault.{EnterFault}
 use Rattle.book.specs.declared.book.EnterFault.TheVariants.{Full, OutOfMemory}
-use Rattle.replay.specs.declared.finding.Finding.{Finding}
 use Rattle.book.specs.Books.{machine_in, right_in, CountsAsOne, HoldsSteps}
 use Rattle.book.specs.ByLabel.{expansion_of, AreStepsOf, ExpandedView, IsEntryOf, IsExpandedOf, RefusesEntry}
 use Rattle.book.specs.Entries.{At, Contents, Enters, Entry, IsFullFor, IsOwn, IsTaken, Refuses, Steps, Successor}
 use Rattle.book.specs.Labels.{label_by, labelled, steps_of}
 use Rattle.book.specs.Law.{IsExpansion}
-use Rattle.replay.specs.Schedule.{StepMachine}
-
--- the steps of a state that are labelled are its steps
-steps_back : {S : Type 0} (step : S → ℕ → Option S) (s : S) (label_of : S → List ℕ) (ys : List (Successor S))
-    → ((k : ℕ) (y : Successor S) → slice_get ys k ≡ Some y → step s y.thread ≡ Some y.state)
-    → steps_of step s (map (labelled label_of) ys) ≡ ys
-steps_back step s label_of [] leads = refl
-steps_back {S} step s label_of (y ∷ ys) leads =
-    let state : unwrap_or (step s y.thread) s ≡ y.state = ap (λ (o : Option S). unwrap_or o s) (leads 0 y refl) in
-    let head : record { thread = y.thread; state = unwrap_or (step s y.thread) s; finding = y.finding } ≡ y =
-    λ j. record { thread = y.thread; state = state j; finding = y.finding } in
-    ap (λ (z : Successor S). z ∷ steps_of step s (map (labelled label_of) ys)) head
-    ∙ ap (λ (zs : List (Successor S)). y ∷ zs) (steps_back step s label_of ys (λ k. leads (suc k)))
-
-are_steps : {S : Type 0} (m : StepMachine S) (right : S → Finding → Type 0) (label_of : S → List ℕ) (s : S)
-    (ys : List (Successor S)) → IsExpansion m right s ys → AreStepsOf m right label_of s (map (labelled label_of) ys)
-are_steps {S} m right label_of s ys expansion =
-    let back = steps_back m.step s label_of ys expansion.steps in
-    record {
-      expansion = subst (λ (zs : List (Successor S)). IsExpansion m right s zs) (sym back) expansion;
-      labels = ap (map (labelled label_of)) (sym back);
-    }
+use Rattle.book.proofs.Lists.{map-map}
 
 -- a refusal for memory, or for room that the steps need, is one of what the steps are of
 refused_by : {Needs : Type 0} (Refused : EnterFault → Type 0) (answer : Result Entered EnterFault)
@@ -88,12 +68,15 @@ module _ {Machine Memory Place Form : Type 0} (rules : Machine → Rules Memory 
     labelled_here : steps ≡ map (labelled label_here) x.successors
     labelled_here = rw (← own.machine) are
 
-    pub own_steps : AreStepsOf (machine_in rules b) (right_in rules b) label_here e.state steps
-    own_steps = rw labelled_here (are_steps _ (right_in rules b) label_here e.state x.successors expansion_here)
-
+    -- the steps that are labelled are its steps
     own_successors : steps_of (machine_in rules b).step e.state steps ≡ x.successors
-    own_successors = rw labelled_here
-        (steps_back (machine_in rules b).step e.state label_here x.successors expansion_here.steps)
+    own_successors =
+        rw (labelled_here, map-map) (map_fixed _ x.successors (λ k d less.
+        let one = get_at x.successors k less in
+        rw (get_or_from_slice_get x.successors k one.0 d one.1, expansion_here.steps k one.0 one.1) refl))
+
+    pub own_steps : AreStepsOf (machine_in rules b) (right_in rules b) label_here e.state steps
+    own_steps = record { expansion = rw own_successors expansion_here; labels = rw own_successors labelled_here }
 
     -- what putting them in answers is what entering the expansion does
     pub entered_own : (new : Contents Machine (State Machine Memory Place Form)) (answer : Result Entered EnterFault)

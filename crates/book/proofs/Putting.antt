@@ -1,86 +1,45 @@
 -- The steps of a taken entry are inserted, and it is marked expanded: what follows for the book.
-use Rattle.std.proofs.Common.{◌≡◌, ℕ, zero, suc, ◌+◌, ◌-◌, ◌^◌, ◌<◌, ◌≤◌, inl, inr, Bool, true, false, Some, None}
-use Rattle.std.proofs.Common.{IsSome, Option, List, [], ◌∷◌, ◌++◌, length, map, refl, sym, ap, ◌∙◌, arith, slice_get}
-use Rattle.std.proofs.Common.{subst, true≢false}
+use Rattle.std.proofs.Common.{◌≡◌, ℕ, suc, ◌+◌, ◌-◌, ◌^◌, ◌<◌, ◌≤◌, inl, inr, Bool, Some, IsSome}
+use Rattle.std.proofs.Common.{List, [], ◌∷◌, ◌++◌, length, map, refl, sym, ◌∙◌, arith, slice_get}
+use Rattle.std.proofs.Common.{length-append}
 use Rattle.std.specs.List.{All}
 use Rattle.std.proofs.lemmas.Bool.{cond_both}
-use Rattle.std.specs.Prelude.{unwrap_or}
+use Rattle.std.proofs.lemmas.Option.{get_or_from_slice_get}
 use Rattle.std.proofs.Math.ListN.{length-map}
 use Rattle.tree_machine.specs.Rules.{Rules}
 use Rattle.tree_machine.specs.declared.state.State.{State}
-use Rattle.tree_machine.proofs.Lists.{get-append_cases}
+use Rattle.tree_machine.proofs.Lists.{get_at, map-get}
 use Rattle.book.specs.declared.entry.Mark.TheVariants.{Taken, Expanded}
 use Rattle.book.specs.Books.{machine_in, right_in, CountsAsOne, IsBook}
 use Rattle.book.specs.ByLabel.{AreStepsOf}
-use Rattle.book.specs.Entries.{AreNew, At, Contents, Enters, Entry, IsFullFor, IsTaken, Knows, Successor, opened}
+use Rattle.book.specs.Entries.{AreNew, At, Contents, Enters, Entry, IsFullFor, IsTaken, Successor, opened}
 use Rattle.book.specs.Entries.{states, with_mark}
 use Rattle.book.specs.Unknown.{knows, unknown}
 use Rattle.book.specs.Labels.{same_as, steps_of}
 use Rattle.replay.specs.Schedule.{AreOneBy, StepMachine}
 use Rattle.book.proofs.Agreeing.{Agree}
-use Rattle.book.proofs.Entering.{
-  length_appended,
-  entered_is,
-  entered_within,
-  still_taken,
-  entered_entries,
-  lawful_entered,
-}
-use Rattle.book.proofs.Entering.{small_met}
+use Rattle.book.proofs.Entering.{entered_within, still_taken, entered_entries, lawful_entered, small_met}
+use Rattle.book.proofs.Lists.{all_pushed}
 use Rattle.book.proofs.Unknown.{at-states, list_any-false, list_any-true}
 
 -- what is new by a test is new by a relation that agrees with it
 module _ {S : Type 0} (m : StepMachine S) (same : S → S → Bool) (Same : S → S → Type 0)
     (agree : Agree m (AreOneBy same) Same) where
-  module _ (known : List S) (fit : (k : ℕ) (r : S) → slice_get known k ≡ Some r → m.Fits r) (s : S) (fits : m.Fits s)
-    where
-      knows_by : knows same known s ≡ true → Knows Same known s
-      knows_by h =
-          let w = list_any-true (λ r. same r s) known h in
-          (w.0, w.1, w.2, (agree w.1 s (fit w.0 w.1 w.2) fits).0 w.3)
-
-      knows_not : knows same known s ≡ false → Knows Same known s → ⊥
-      knows_not h w =
-          true≢false (sym ((agree w.1 s (fit w.0 w.1 w.2) fits).1 w.3)
-          ∙ list_any-false (λ r. same r s) known h w.0 w.1 w.2)
-
-      fit_more : (k : ℕ) (r : S) → slice_get (known ++ s ∷ []) k ≡ Some r → m.Fits r
-      fit_more k r at = elim (get-append_cases known (s ∷ []) k r at) [
-        | inl there ↦ fit k r there
-        | inr last ↦ one last.0 last.2
-      ]
-        where
-          one : (j : ℕ) → slice_get (s ∷ []) j ≡ Some r → m.Fits r
-          one zero h = let q : s ≡ r = cc in subst m.Fits q fits
-          one (suc j) h = absurd (let q : None ≡ Some r = h in cc)
-
-  pub are_new : (known : List S) → ((k : ℕ) (r : S) → slice_get known k ≡ Some r → m.Fits r)
+  are_new : (known : List S) → ((k : ℕ) (r : S) → slice_get known k ≡ Some r → m.Fits r)
       → (xs : List (Successor S)) → ((k : ℕ) (x : Successor S) → slice_get xs k ≡ Some x → m.Fits x.state)
       → AreNew Same known xs (unknown same known xs)
   are_new known fit [] fits = refl
   are_new known fit (x ∷ xs) fits =
       let rest = unknown same (known ++ x.state ∷ []) xs in
-      let more = fit_more known fit x.state (fits 0 x refl) in
+      let more = all_pushed m.Fits known x.state fit (fits 0 x refl) in
+      let alike = λ (k : ℕ) (r : S) (at : slice_get known k ≡ Some r). agree r x.state (fit k r at) (fits 0 x refl) in
       cond_both (knows same known x.state) (unknown same known xs) (x ∷ rest) (AreNew Same known (x ∷ xs))
-      (λ h. inl (knows_by known fit x.state (fits 0 x refl) h, are_new known fit xs (λ k. fits (suc k))))
+      (λ h. let w = list_any-true (λ r. same r x.state) known h in
+      inl ((w.0, w.1, w.2, (alike w.0 w.1 w.2).0 w.3), are_new known fit xs (λ k. fits (suc k))))
       (λ h. inr (
-        knows_not known fit x.state (fits 0 x refl) h,
+        (λ w. cc ((alike w.0 w.1 w.2).1 w.3, list_any-false (λ r. same r x.state) known h w.0 w.1 w.2)),
         (rest, refl, are_new (known ++ x.state ∷ []) more xs (λ k. fits (suc k))),
       ))
-
--- steps that lead somewhere are those of enabled threads
-pub steps_enabled : {S : Type 0} (step : S → ℕ → Option S) (s : S) (xs : List (Successor (List ℕ)))
-    → ((k : ℕ) (y : Successor S) → slice_get (steps_of step s xs) k ≡ Some y → step s y.thread ≡ Some y.state)
-    → All (λ x. IsSome (step s x.thread)) xs
-steps_enabled step s [] leads k d less = absurd (omega arith)
-steps_enabled {S} step s (x ∷ xs) leads zero d less =
-    some (step s x.thread) (leads 0 _ refl)
-  where
-    some : (o : Option S) → o ≡ Some (unwrap_or (step s x.thread) s) → IsSome o
-    some None h = absurd (let q : None ≡ Some (unwrap_or (step s x.thread) s) = h in cc)
-    some (Some r) h = refl
-steps_enabled step s (x ∷ xs) leads (suc k) d less =
-    steps_enabled step s xs (λ j. leads (suc j)) k d (omega arith)
 
 module _ {Machine Memory Place Form : Type 0} {rules : Machine → Rules Memory Place}
     {label_of : State Machine Memory Place Form → List ℕ} {b : Contents Machine (State Machine Memory Place Form)}
@@ -97,14 +56,16 @@ module _ {Machine Memory Place Form : Type 0} {rules : Machine → Rules Memory 
   abbrev news : List (Successor (State Machine Memory Place Form))
   news = unknown same (states b.entries) ys
 
+  -- they lead somewhere, so their threads are enabled
   pub here_enabled : All (λ x. IsSome ((machine_in rules b).step e.state x.thread)) xs
-  here_enabled = steps_enabled (machine_in rules b).step e.state xs steps.expansion.steps
+  here_enabled k d less =
+      let one = get_at xs k less in
+      rw (get_or_from_slice_get xs k one.0 d one.1, steps.expansion.steps k _ (map-get _ xs k one.0 one.1)) refl
 
   news_are : AreNew (CountsAsOne (rules b.machine) b.merge) (states b.entries) ys news
   news_are =
       are_new (machine_in rules b) same (CountsAsOne (rules b.machine) b.merge) book.counts (states b.entries)
-      (λ k r there. let d = at-states b.entries k r there in
-      subst (machine_in rules b).Fits d.2 (book.law.law.fit k d.0 d.1))
+      (λ k r there. let d = at-states b.entries k r there in rw (← d.2) (book.law.law.fit k d.0 d.1))
       ys steps.expansion.fit
 
   pub full_for : b.limit < length b.entries + length news → IsFullFor (CountsAsOne (rules b.machine) b.merge) b ys
@@ -116,51 +77,40 @@ module _ {Machine Memory Place Form : Type 0} {rules : Machine → Rules Memory 
     all_steps : n ≡ length ys
     all_steps = n_is ∙ sym (length-map xs _)
 
+    longer : length appended ≡ length b.entries + length news
+    longer = rw (put, length-append, length-map) refl
+
     -- the number of entries does not fall: one is added for each unknown step
-    pub grown : was ≤ len
-    grown =
-        let more : length appended ≡ length b.entries + length news =
-        length_appended (machine_in rules b) same (right_in rules b) book.machine book.merges b book.law i e at taken ys
-        steps.expansion appended put in
-        omega arith
+    grown : was ≤ len
+    grown = omega (arith, longer)
 
-    pub entered_count : len - was ≡ length news
-    entered_count =
-        entered_is (machine_in rules b) same (right_in rules b) book.machine book.merges b book.law i e at taken ys
-        steps.expansion appended put (len - was) was len refl was_is len_is
+    entered_count : len - was ≡ length news
+    entered_count = omega (arith, longer)
 
-    pub entered_bounded : len - was ≤ n
+    entered_bounded : len - was ≤ n
     entered_bounded =
         entered_within (machine_in rules b) same (right_in rules b) book.machine book.merges b book.law i e at taken ys
         steps.expansion appended put (len - was) was len n refl was_is len_is all_steps
 
     entered_each : (len - was) + (n - (len - was)) ≡ length ys
-    entered_each = let le : len - was ≤ n = entered_bounded in let all : n ≡ length ys = all_steps in omega arith
+    entered_each = omega (arith, entered_bounded, all_steps)
 
-    pub is_taken_still : IsTaken appended i
-    is_taken_still =
-        still_taken (machine_in rules b) same (right_in rules b) book.machine book.merges b book.law i e at taken ys
-        steps.expansion appended put
-
-    pub met_is_small : b.met + (n - (len - was)) < 2 ^ 64
-    met_is_small =
-        let all : n ≡ length ys = all_steps in
-        small_met (machine_in rules b) same (right_in rules b) book.machine book.merges b book.law i e at taken ys
-        steps.expansion appended put (n - (len - was)) (omega arith)
+    -- the counts fit their types, and the entry is taken still
+    pub counts_fit : (was ≤ len) × (len - was ≤ n) × IsTaken appended i × (b.met + (n - (len - was)) < 2 ^ 64)
+    counts_fit = (
+      grown,
+      entered_bounded,
+      still_taken (machine_in rules b) same (right_in rules b) book.machine book.merges b book.law i e at taken ys
+          steps.expansion appended put,
+      small_met (machine_in rules b) same (right_in rules b) book.machine book.merges b book.law i e at taken ys
+          steps.expansion appended put (n - (len - was)) (omega (arith, all_steps)),
+    )
 
     module _ (new : List (Entry (State Machine Memory Place Form))) (marked : new ≡ with_mark appended i Expanded)
         (room : length appended ≤ b.limit) where
       -- the book with them
       abbrev now : Contents Machine (State Machine Memory Place Form)
-      now =
-          record {
-            machine = b.machine;
-            program = b.program;
-            merge = b.merge;
-            limit = b.limit;
-            entries = new;
-            met = b.met + (n - (len - was));
-          }
+      now = record b { entries = new; met = b.met + (n - (len - was)) }
 
       pub book_entered : IsBook rules label_of now
       book_entered =
@@ -187,16 +137,11 @@ module _ {Machine Memory Place Form : Type 0} {rules : Machine → Rules Memory 
             own = record {
               machine = refl;
               program = refl;
-              source =
-                  (λ d there. let same_entry : e ≡ d = cc (at, there) in
-                  ap (λ (x : Entry (State Machine Memory Place Form)). x.state) same_entry);
+              source = (λ d there. let same_entry : e ≡ d = cc (at, there) in rw same_entry refl);
             };
             added = news;
             are_new = news_are;
-            room =
-                (let count : len - was ≡ length news = entered_count in
-                let le : was ≤ len = grown in
-                omega arith);
+            room = omega (arith, grown);
             entries =
                 entered_entries (machine_in rules b) same (right_in rules b) book.machine book.merges b book.law i e at
                 taken ys steps.expansion appended put new marked;

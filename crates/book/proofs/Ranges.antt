@@ -1,19 +1,23 @@
 -- Entries in a row that are taken together.
-use Rattle.std.proofs.Common.{◌≡◌, ◌≢◌, ℕ, zero, suc, ◌+◌, ◌-◌, ◌<◌, ◌≤◌, ◌⊎◌, inl, inr, Bool, Option, Some, None}
-use Rattle.std.proofs.Common.{List, [], ◌∷◌, ◌++◌, length, map, refl, sym, ap, ◌∙◌, arith, slice_get, position, subst}
+use Rattle.std.proofs.Common.{◌≡◌, ◌≢◌, ℕ, zero, suc, ◌+◌, ◌-◌, ◌<◌, ◌≤◌, ◌⊎◌, inl, inr, Bool, Option, Some, List, []}
+use Rattle.std.proofs.Common.{◌∷◌, ◌++◌, length, map, refl, sym, ◌∙◌, arith, slice_get, position}
 use Rattle.std.specs.List.{range_with_len}
 use Rattle.std.specs.declared.sync.Arc.{Arc}
 use Rattle.std.proofs.lemmas.Bool.{true≢false, cases_lt}
 use Rattle.std.proofs.lemmas.List.{map_push}
-use Rattle.tree_machine.proofs.Lists.{get_at, get-append_cases}
+use Rattle.std.proofs.lemmas.List.FromFn.{get_or-range_with_len, length-range_with_len}
+use Rattle.std.proofs.lemmas.Option.{get_or_from_slice_get, slice_get_within}
+use Rattle.tree_machine.proofs.Lists.{get_at, map-get}
 use Rattle.replay.specs.declared.finding.Finding.{Finding}
 use Rattle.book.specs.declared.entry.Mark.{Mark}
 use Rattle.book.specs.declared.entry.Mark.TheVariants.{Open, Taken, Expanded}
 use Rattle.replay.specs.Schedule.{AreOneBy, StepMachine, IsMachine, Merges}
-use Rattle.book.specs.Entries.{Entry, Contents, At, IsNext, TakesLayer, TakesRange, is_open, with_mark, with_marks}
+use Rattle.book.specs.Entries.{Entry, Contents, At, IsInLayer, IsNext, TakesLayer, TakesRange, is_open, with_mark}
+use Rattle.book.specs.Entries.{with_marks}
 use Rattle.book.specs.Law.{IsLawfulBook}
 use Rattle.book.specs.Slots.{AllStates, AreCursors, AreStatesOf, IsOpenFrom}
 use Rattle.book.proofs.EntryLemmas.{at-with_mark, length-with_mark}
+use Rattle.book.proofs.Lists.{all_pushed}
 use Rattle.book.proofs.ThreadSteps.{range-more}
 use Rattle.book.proofs.Next.{first_passes}
 use Rattle.book.proofs.Cursors.{open_at, cursors_taken}
@@ -21,6 +25,10 @@ use Rattle.book.proofs.LawfulBooks.{taken_book}
 use Rattle.book.proofs.Marks.{open_passes}
 
 -- ---- marks
+range_next : (a i : ℕ) → a ≤ i → range_with_len a (i + 1 - a) ≡ range_with_len a (i - a) ++ i ∷ []
+range_next a i le =
+    let more : i + 1 - a ≡ i - a + 1 = omega arith in rw more (range-more a (i - a) i (omega arith))
+
 module _ {S : Type 0} where
   marks-push : (es : List (Entry S)) (is : List ℕ) (i : ℕ) (k : Mark)
       → with_marks es (is ++ i ∷ []) k ≡ with_mark (with_marks es is k) i k
@@ -32,14 +40,9 @@ module _ {S : Type 0} where
       → mid ≡ with_marks old (range_with_len a (i - a)) k → new ≡ with_mark mid i k → a ≤ i → j ≡ i + 1
       → new ≡ with_marks old (range_with_len a (j - a)) k
   marks_more old mid new a i j k so_far marked le next =
-      let here : a + (i - a) ≡ i = omega arith in
-      let more : i - a + 1 ≡ j - a = omega arith in
-      marked ∙ ap (λ es. with_mark es i k) so_far ∙ sym (marks-push old (range_with_len a (i - a)) i k)
-      ∙ ap (λ n. with_marks old (range_with_len a (i - a) ++ n ∷ []) k) (sym here)
-      ∙ ap (λ is. with_marks old is k) (sym (range-more a (i - a)))
-      ∙ ap (λ n. with_marks old (range_with_len a n) k) more
+      rw (marked, so_far, next, range_next a i le, marks-push) refl
 
-  pub length-with_marks : (es : List (Entry S)) (is : List ℕ) (k : Mark) → length (with_marks es is k) ≡ length es
+  length-with_marks : (es : List (Entry S)) (is : List ℕ) (k : Mark) → length (with_marks es is k) ≡ length es
   length-with_marks es [] k = refl
   length-with_marks es (i ∷ is) k = length-with_marks (with_mark es i k) is k ∙ length-with_mark es i k
 
@@ -58,7 +61,7 @@ module _ {S : Type 0} where
         elim r.3 [
           | inl l ↦ (let p : a + 1 ≤ j = l.0 in let q : j < a + 1 + n = l.1 in inl (omega arith, omega arith, l.2))
           | inr m ↦ elim o.3 [
-            | inl l ↦ (let e : a ≡ j = l.0 in inl (omega arith, omega arith, ap (λ (x : Entry S). x.mark) m.1 ∙ l.1))
+            | inl l ↦ (let e : a ≡ j = l.0 in inl (omega arith, omega arith, rw m.1 l.1))
             | inr l ↦ inr (
               (λ p q. elim (cases_lt a j) [
                 | inl less ↦ m.0 (omega arith) (omega arith)
@@ -77,46 +80,21 @@ module _ {S A : Type 0} where
       → map (λ (x : ℕ × Arc S A). x.0) range ≡ range_with_len a (i - a) → p.0 ≡ i → a ≤ i
       → map (λ (x : ℕ × Arc S A). x.0) (range ++ p ∷ []) ≡ range_with_len a (i + 1 - a)
   numbers_more range p a i so_far number le =
-      let here : p.0 ≡ a + (i - a) = omega arith in
-      let more : i - a + 1 ≡ i + 1 - a = omega arith in
-      map_push (λ (x : ℕ × Arc S A). x.0) range p ∙ ap (λ ns. ns ++ p.0 ∷ []) so_far
-      ∙ ap (λ n. range_with_len a (i - a) ++ n ∷ []) here
-      ∙ sym (range-more a (i - a)) ∙ ap (range_with_len a) more
+      rw (map_push (λ (x : ℕ × Arc S A). x.0) range p, so_far, number, range_next a i le) refl
 
   pub states_more : (es : List (Entry S)) (range : List (ℕ × Arc S A)) (i : ℕ) (p : ℕ × Arc S A) (e : Entry S)
       → AreStatesOf es range → At es i e → p.0 ≡ i → e.state ≡ p.1.value
       → AreStatesOf es (range ++ p ∷ [])
-  states_more es range i p e so_far at number state k q h =
-      elim (get-append_cases range (p ∷ []) k q h) [
-        | inl l ↦ so_far k q l
-        | inr r ↦ (let same : p ≡ q = single r.0 q r.2 in (
-          e,
-          (let w : q.0 ≡ i = sym (ap (λ (x : ℕ × Arc S A). x.0) same) ∙ number in rw w at),
-          state ∙ ap (λ (x : ℕ × Arc S A). x.1.value) same,
-        ))
-      ]
-    where
-      single : (k : ℕ) (q : ℕ × Arc S A) → slice_get (p ∷ []) k ≡ Some q → p ≡ q
-      single zero q h = cc
-      single (suc k) q h = absurd (let z : None ≡ Some q = h in cc)
+  states_more es range i p e so_far at number state =
+      all_pushed (λ q. (d : Entry S) × At es q.0 d × (d.state ≡ q.1.value)) range p so_far (e, rw number at, state)
 
   -- the numbers are those in a row
   number_is : (range : List (ℕ × Arc S A)) (a n k : ℕ) (p : ℕ × Arc S A)
       → map (λ (x : ℕ × Arc S A). x.0) range ≡ range_with_len a n → slice_get range k ≡ Some p → (p.0 ≡ a + k) × (k < n)
-  number_is [] a n k p numbers at = absurd (let z : None ≡ Some p = at in cc)
-  number_is (q ∷ range) a zero k p numbers at =
-      absurd (let z : q.0 ∷ map (λ (x : ℕ × Arc S A). x.0) range ≡ [] = numbers in cc)
-  number_is (q ∷ range) a (suc n) zero p numbers at =
-      let z : q.0 ∷ map (λ (x : ℕ × Arc S A). x.0) range ≡ a ∷ range_with_len (a + 1) n = numbers in
-      let head : q.0 ≡ a = cc in
-      let same : q ≡ p = cc in
-      let number : p.0 ≡ a = sym (ap (λ (x : ℕ × Arc S A). x.0) same) ∙ head in (omega arith, omega arith)
-  number_is (q ∷ range) a (suc n) (suc k) p numbers at =
-      let z : q.0 ∷ map (λ (x : ℕ × Arc S A). x.0) range ≡ a ∷ range_with_len (a + 1) n = numbers in
-      let tail : map (λ (x : ℕ × Arc S A). x.0) range ≡ range_with_len (a + 1) n = cc in
-      let r = number_is range (a + 1) n k p tail at in
-      let number : p.0 ≡ a + 1 + k = r.0 in
-      let less : k < n = r.1 in (omega arith, omega arith)
+  number_is range a n k p numbers at =
+      let there = rw numbers at (map-get (λ (x : ℕ × Arc S A). x.0) range k p at) in
+      let less = rw length-range_with_len at (slice_get_within (range_with_len a n) k p.0 there) in
+      (sym (get_or_from_slice_get (range_with_len a n) k p.0 0 there) ∙ get_or-range_with_len a n k 0 less, less)
 
 -- ---- the places that are looked for
 pub cursors_range : {S : Type 0} (n : ℕ) (es : List (Entry S)) (a left : ℕ) (fault : Option ℕ)
@@ -139,9 +117,20 @@ pub record IsRange {S : Type 0} (steps : S → ℕ) (es : List (Entry S)) (a n :
   pub within : a + n ≤ length es
 
 module _ {S : Type 0} (steps : S → ℕ) where
-  range_next : (es : List (Entry S)) (a n : ℕ) → IsRange steps es a (suc n) → (e : Entry S) × IsNext steps es a e
-  range_next es a n range =
-      let at = get_at es a (let w : a + suc n ≤ length es = range.within in omega arith) in (
+  -- an entry of it may be given out
+  in_layer : (es : List (Entry S)) (a n : ℕ) → IsRange steps es a n → (i : ℕ) (e : Entry S) (s : S) → At es i e → a ≤ i
+      → i < a + n → e.state ≡ s → IsInLayer steps es i s
+  in_layer es a n range i e s at ge less is = record {
+    entry = e;
+    there = at;
+    is_open = range.are_open i e at ge less;
+    state = is;
+    fewest = (λ j f there left. rw (← is) (range.fewest i j e f at ge less there left));
+  }
+
+  first_next : (es : List (Entry S)) (a n : ℕ) → IsRange steps es a (suc n) → (e : Entry S) × IsNext steps es a e
+  first_next es a n range =
+      let at = get_at es a (omega (arith, range.within)) in (
         at.0,
         record {
           entry = at.1;
@@ -160,31 +149,25 @@ module _ {S : Type 0} (steps : S → ℕ) where
     below = (λ i d at less.
         let o = at-with_mark es a Taken i d at in
         elim o.3 [
-          | inl l ↦ (λ (q : d.mark ≡ Open). let t : d.mark ≡ Taken = l.1 in cc)
-          | inr r ↦
-              (λ (q : d.mark ≡ Open). range.below i o.0 o.1
-              (let ne : a ≡ i → ⊥ = r.0 in elim (cases_lt i a) [ inl l ↦ l | inr ge ↦ absurd (ne (omega arith)) ])
-              (sym (ap (λ (x : Entry S). x.mark) r.1) ∙ q))
+          | inl l ↦ (λ q. let t : d.mark ≡ Taken = l.1 in cc)
+          | inr r ↦ (λ q. range.below i o.0 o.1 (let ne : a ≢ i = r.0 in omega arith) (rw r.1 at q))
         ]);
     are_open = (λ i d at ge less.
         let o = at-with_mark es a Taken i d at in
         elim o.3 [
-          | inl l ↦ absurd (let e : a ≡ i = l.0 in omega arith)
-          | inr r ↦ ap (λ (x : Entry S). x.mark) r.1 ∙ range.are_open i o.0 o.1 (omega arith) (omega arith)
+          | inl l ↦ let e : a ≡ i = l.0 in absurd (omega arith)
+          | inr r ↦ rw r.1 (range.are_open i o.0 o.1 (omega arith) (omega arith))
         ]);
     fewest = (λ i j d f at ge less there left.
         let o = at-with_mark es a Taken i d at in
         let p = at-with_mark es a Taken j f there in
         let was : p.0.mark ≢ Expanded = (elim p.3 [
-          | inl l ↦
-              (λ (q : p.0.mark ≡ Expanded). let t : p.0.mark
-              ≡ Open =
-              range.are_open j p.0 p.1 (let e : a ≡ j = l.0 in omega arith) (let e : a ≡ j = l.0 in omega arith) in cc)
-          | inr r ↦ (λ (q : p.0.mark ≡ Expanded). left (ap (λ (x : Entry S). x.mark) r.1 ∙ q))
+          | inl l ↦ let e : a ≡ j = l.0 in
+              (λ q. let t : p.0.mark ≡ Open = range.are_open j p.0 p.1 (omega arith) (omega arith) in cc)
+          | inr r ↦ (λ q. left (rw r.1 q))
         ]) in
         rw (o.2.state, p.2.state) (range.fewest i j o.0 p.0 o.1 (omega arith) (omega arith) p.1 was));
-    within = (let l : length (with_mark es a Taken) ≡ length es = length-with_mark es a Taken in
-        let w : a + suc n ≤ length es = range.within in omega arith);
+    within = rw length-with_mark (omega (arith, range.within));
   }
 
   -- once a row is taken after which all have more steps, none is next
@@ -192,28 +175,24 @@ module _ {S : Type 0} (steps : S → ℕ) where
       → ((i : ℕ) (e : Entry S) → At es i e → a + n ≤ i → steps d.state < steps e.state)
       → (i : ℕ) (e : Entry S) → IsNext steps (with_marks es (range_with_len a n) Taken) i e → ⊥
   none_after es a n range some d at_a later i e next =
-      let o = at-range n es a Taken i e next.entry in
-      let is_open_one : e.mark ≡ Open = next.is_open in
-      let l : length (with_marks es (range_with_len a n) Taken) ≡ length es =
-      length-with_marks es (range_with_len a n) Taken in
-      let w : a + n ≤ length es = range.within in
-      let here = get_at (with_marks es (range_with_len a n) Taken) a (omega arith) in
+      let l = length-with_marks es (range_with_len a n) Taken in
+      let here = get_at (with_marks es (range_with_len a n) Taken) a (omega (arith, range.within)) in
       let was = at-range n es a Taken a here.0 here.1 in
       let same : was.0 ≡ d = cc (was.1, at_a) in
-      let steps_here : steps here.0.state ≡ steps d.state = ap steps (was.2 ∙ ap (λ (x : Entry S). x.state) same) in
       let left : here.0.mark ≢ Expanded = (elim was.3 [
-        | inl r ↦ (λ (q : here.0.mark ≡ Expanded). let t : here.0.mark ≡ Taken = r.2 in cc)
+        | inl r ↦ (λ q. let t : here.0.mark ≡ Taken = r.2 in cc)
         | inr r ↦ absurd (r.0 (omega arith) (omega arith))
       ]) in
-      let bounded : steps e.state ≤ steps here.0.state = next.fewest a here.0 here.1 left in
+      let bounded : steps e.state ≤ steps d.state =
+      rw (was.2, same) at (next.fewest a here.0 here.1 left) in
+      let o = at-range n es a Taken i e next.entry in
       elim o.3 [
-        | inl r ↦ (let t : e.mark ≡ Taken = r.2 in cc)
+        | inl r ↦ (let t : e.mark ≡ Taken = r.2 in cc (next.is_open))
         | inr r ↦ elim (cases_lt i a) [
-          | inl less ↦ range.below i o.0 o.1 less (sym (ap (λ (x : Entry S). x.mark) r.1) ∙ is_open_one)
+          | inl less ↦ range.below i o.0 o.1 less (rw r.1 at next.is_open)
           | inr ge ↦ elim (cases_lt i (a + n)) [
             | inl less ↦ r.0 ge less
-            | inr beyond ↦ (let more : steps d.state < steps o.0.state = later i o.0 o.1 beyond in
-                let same_steps : steps e.state ≡ steps o.0.state = ap steps o.2 in omega arith)
+            | inr beyond ↦ (let more : steps d.state < steps e.state = rw o.2 (later i o.0 o.1 beyond) in omega arith)
           ]
         ]
       ]
@@ -228,23 +207,10 @@ module _ {S : Type 0} (steps : S → ℕ) where
     each = (λ k p at.
         let s = states k p at in
         let number = number_is layer a n k p numbers at in
-        let is : p.0 ≡ a + k = number.0 in
-        let less : k < n = number.1 in
-        record {
-          entry = s.0;
-          there = s.1;
-          is_open = range.are_open p.0 s.0 s.1 (omega arith) (omega arith);
-          state = s.2;
-          fewest =
-              (λ j f there left. let bounded : steps s.0.state ≤ steps f.state = range.fewest p.0 j s.0 f s.1
-              (omega arith)
-              (omega arith) there left in
-              let same : steps s.0.state ≡ steps p.1.value = ap steps s.2 in omega arith);
-        });
+        in_layer old a n range p.0 s.0 p.1.value s.1 (omega (arith, number.0)) (omega (arith, number.0, number.1)) s.2);
     ascending = (λ j k p q at_j at_k less.
-        let u : p.0 ≡ a + j = (number_is layer a n j p numbers at_j).0 in
-        let v : q.0 ≡ a + k = (number_is layer a n k q numbers at_k).0 in omega arith);
-    after = marked ∙ ap (λ is. with_marks old is Taken) (sym numbers);
+        omega (arith, (number_is layer a n j p numbers at_j).0, (number_is layer a n k q numbers at_k).0));
+    after = rw numbers marked;
     none_next = (λ i e next. none_after old a n range some d at_a later i e (rw (← marked) next));
   }
 
@@ -255,17 +221,9 @@ module _ {S : Type 0} (steps : S → ℕ) where
       → new ≡ with_marks old (range_with_len a (z - a)) Taken → TakesRange steps old new a z
   takes_range old new a z row range some d at_a later marked = record {
     each = (λ i ge less.
-        let e = get_at old i (let w : a + (z - a) ≤ length old = range.within in omega arith) in (
-          e.0.state,
-          record {
-            entry = e.0;
-            there = e.1;
-            is_open = range.are_open i e.0 e.1 ge (omega arith);
-            state = refl;
-            fewest = (λ j f there left. range.fewest i j e.0 f e.1 ge (omega arith) there left);
-          },
-        ));
-    within = (let w : a + (z - a) ≤ length old = range.within in omega arith);
+        let e = get_at old i (omega (arith, range.within)) in
+        (e.0.state, in_layer old a (z - a) range i e.0 e.0.state e.1 ge (omega arith) refl));
+    within = omega (arith, range.within);
     row = row;
     after = marked;
     none_next = (λ i e next. none_after old a (z - a) range some d at_a later i e (rw (← marked) next));
@@ -278,7 +236,6 @@ pub record IsLayerAt {S : Type 0} (steps : S → ℕ) (es : List (Entry S)) (a e
   pub some : a < end
   pub range : IsRange steps es a (end - a)
   pub later : (i : ℕ) (e : Entry S) → At es i e → a + (end - a) ≤ i → steps entry.state < steps e.state
-  pub within : end ≤ length es
 
 module _ {S : Type 0} (m : StepMachine S) (same : S → S → Bool) (right : S → Finding → Type 0) where
   -- those from the next one on that have no more steps than it; what is known of the entries is said of an equal list
@@ -293,7 +250,7 @@ module _ {S : Type 0} (m : StepMachine S) (same : S → S → Bool) (right : S �
       let steps_are : m.steps next.0.state ≡ k = rw same_entry at.2 in
       let is_some : a < end = (elim (cases_lt a end) [
         | inl l ↦ l
-        | inr le ↦ absurd (let q : k < m.steps next.0.state = beyond a next.0 next.1.entry le in omega arith)
+        | inr le ↦ omega (arith, beyond a next.0 next.1.entry le)
       ]) in
       rw view (record {
         entry = next.0;
@@ -304,42 +261,24 @@ module _ {S : Type 0} (m : StepMachine S) (same : S → S → Bool) (right : S �
               ∙ (first_passes (λ (r : Entry S). is_open r.mark) vs a first).3 i d less at));
           are_open = (λ i d at ge less. above i d at ge);
           fewest = (λ i j d f at ge less there left.
-              let p : m.steps d.state ≤ k = below i d at (omega arith) in
-              let q : m.steps next.0.state ≤ m.steps f.state = next.1.fewest j f there left in omega arith);
+              omega (arith, below i d at (omega arith), next.1.fewest j f there left));
           within = omega arith;
         };
-        later = (λ i e at ge. let q : k < m.steps e.state = beyond i e at (omega arith) in omega arith);
-        within = within;
+        later = (λ i e at ge. omega (arith, beyond i e at (omega arith)));
       })
 
   -- what is so of the state of each entry is so of each state in a range of them
   pub so_of_range : {A : Type 0} (P : S → Type 0) (es : List (Entry S)) (range : List (ℕ × Arc S A))
       → ((i : ℕ) (e : Entry S) → At es i e → P e.state) → AreStatesOf es range → AllStates P range
-  so_of_range P es range is states k p at = let e = states k p at in subst P e.2 (is p.0 e.0 e.1)
+  so_of_range P es range is states k p at = let e = states k p at in rw (← e.2) (is p.0 e.0 e.1)
 
 module _ {X S : Type 0} (m : StepMachine S) (same : S → S → Bool) (right : S → Finding → Type 0) (machine : IsMachine m)
     (merges : Merges m same) where
   -- a book whose next entries are taken is lawful
   pub range_book : (n a : ℕ) (b : Contents X S) → IsLawfulBook m (AreOneBy same) right b → IsRange m.steps b.entries a n
-      → IsLawfulBook m (AreOneBy same) right
-      (record {
-        machine = b.machine;
-        program = b.program;
-        merge = b.merge;
-        limit = b.limit;
-        entries = with_marks b.entries (range_with_len a n) Taken;
-        met = b.met;
-      })
+      → IsLawfulBook m (AreOneBy same) right (record b { entries = with_marks b.entries (range_with_len a n) Taken })
   range_book zero a b book range = book
   range_book (suc n) a b book range =
-      let next = range_next m.steps b.entries a n range in
-      range_book n (a + 1)
-      (record {
-        machine = b.machine;
-        program = b.program;
-        merge = b.merge;
-        limit = b.limit;
-        entries = with_mark b.entries a Taken;
-        met = b.met;
-      })
+      let next = first_next m.steps b.entries a n range in
+      range_book n (a + 1) (record b { entries = with_mark b.entries a Taken })
       (taken_book m same right machine merges b book a next.0 next.1) (range_taken m.steps b.entries a n range)

@@ -1,6 +1,6 @@
 -- States that count as one: they have the same findings and labels, and so have their steps.
 use Rattle.std.proofs.Common.{◌≡◌, ℕ, ◌++◌, ◌∷◌, [], ◌∙◌, List, Option, Some, None}
-use Rattle.std.proofs.Common.{ap, arith, refl, subst, sym}
+use Rattle.std.proofs.Common.{ap, arith, refl, sym}
 use Rattle.tree_machine.specs.Alike.{AreStatesAlike}
 use Rattle.tree_machine.specs.Flat.{number_code}
 use Rattle.tree_machine.specs.FormCode.{content_code, named_code, state_code}
@@ -26,37 +26,25 @@ use Rattle.book.specs.declared.successor.Successor.{Successor}
 use Rattle.book.specs.Expanding.{Puts, PutsStep}
 use Rattle.replay.specs.Findings.{machine_of, IsFindingOf}
 use Rattle.book.specs.Labels.{label_by}
-use Rattle.book.proofs.ThreadSteps.{puts_next}
 
 module _ {Machine Memory Place Form : Type 0} (rules : Rules Memory Place) (program : Program)
     (form_of : Memory → List (Option Place) → Form) (lawful : AreLawful rules) (forms : AreFormsExact rules form_of)
   where
-    -- what is found of a state is found of one that is alike to it: the same fault, or the same linearization
-    found_alike : (r s : State Machine Memory Place Form) → Fits rules program r → Fits rules program s
-        → AreStatesAlike rules r s
-        → (finding : Finding) → IsFindingOf rules program r finding → IsFindingOf rules program s finding
-    found_alike r s r_fits s_fits alike found.Astray is = rw (← alike.astray) is
-    found_alike r s r_fits s_fits alike found.Order is = (
-      sym alike.astray ∙ is.0,
-      λ ordered. is.1
-          (alike_ordered rules s r lawful (alike_turned rules form_of forms program r s r_fits s_fits alike) ordered),
-    )
-    found_alike r s r_fits s_fits alike found.History is = (
-      sym alike.astray ∙ is.0,
-      alike_ordered rules r s lawful alike is.1,
-      rw (← alike_history rules r s alike) is.2,
-    )
-    found_alike r s r_fits s_fits alike (found.Sound order) is = (
-      sym alike.astray ∙ is.0,
-      alike_ordered rules r s lawful alike is.1,
-      rw (← alike_history rules r s alike) is.2,
-    )
-
+    -- what is found of a state is found of one that counts as one: the same fault, or the same linearization
     pub one_found : (merge : Merge) (r s : State Machine Memory Place Form) → Fits rules program r
         → Fits rules program s → CountsAsOne rules merge r s → (finding : Finding)
         → IsFindingOf rules program r finding → IsFindingOf rules program s finding
     one_found Exact r s r_fits s_fits one finding is = rw (← one) is
-    one_found Names r s r_fits s_fits one finding is = found_alike r s r_fits s_fits one finding is
+    one_found Names r s r_fits s_fits alike found.Astray is = rw (← alike.astray) is
+    one_found Names r s r_fits s_fits alike found.Order is = (
+      sym alike.astray ∙ is.0,
+      λ ordered. is.1
+          (alike_ordered rules s r lawful (alike_turned rules form_of forms program r s r_fits s_fits alike) ordered),
+    )
+    one_found Names r s r_fits s_fits alike found.History is =
+        rw (← alike.astray, ← alike_history rules r s alike) (is.0, alike_ordered rules r s lawful alike is.1, is.2)
+    one_found Names r s r_fits s_fits alike (found.Sound order) is =
+        rw (← alike.astray, ← alike_history rules r s alike) (is.0, alike_ordered rules r s lawful alike is.1, is.2)
 
     -- counting as one goes both ways
     pub one_turned : (merge : Merge) (r s : State Machine Memory Place Form) → Fits rules program r
@@ -83,24 +71,24 @@ module _ {Machine Memory Place Form : Type 0} (rules : Rules Memory Place) (prog
     -- the state c stands in for s: the step of a thread of c is appended as that of s
     module _ (merge : Merge) (s c : State Machine Memory Place Form) (t : ℕ) (s_fits : Fits rules program s)
         (c_fits : Fits rules program c) (one : CountsAsOne rules merge s c) where
-      module _ (n : State Machine Memory Place Form) (leads : step rules program c t ≡ Some n) where
-        twin : (u : State Machine Memory Place Form) × (step rules program s t ≡ Some u) × CountsAsOne rules merge n u
-        twin = one_step merge c s n t (one_turned merge s c s_fits c_fits one) leads
-
-        pub puts_twin : (own_code : Memory → List (Option Place) → List ℕ) (form_code : Form → List ℕ)
-            (old new : List (Successor (List ℕ))) (x : Successor (List ℕ)) → new ≡ old ++ x ∷ [] → x.thread ≡ t
-            → x.state ≡ label_by own_code form_code form_of merge n → Fits rules program n
-            → IsFindingOf rules program n x.finding
-            → PutsStep (machine_of rules program) (IsFindingOf rules program)
-            (label_by own_code form_code form_of merge) s t old new
-        puts_twin own_code form_code old new x pushed is_thread label n_fits is =
-            let u = twin.0 in
-            let counts : CountsAsOne rules merge n u = twin.2 in
-            let u_fits : Fits rules program u = step_fits rules program s s_fits lawful t u twin.1 in
-            puts_next (machine_of rules program) (IsFindingOf rules program) s
-            (label_by own_code form_code form_of merge) t old new x u twin.1 pushed is_thread
-            (label ∙ one_label own_code form_code merge n u n_fits u_fits counts)
-            (one_found merge n u n_fits u_fits counts x.finding is) u_fits
+      pub puts_twin : (n : State Machine Memory Place Form) → step rules program c t ≡ Some n
+          → (own_code : Memory → List (Option Place) → List ℕ) (form_code : Form → List ℕ)
+          (old new : List (Successor (List ℕ))) (x : Successor (List ℕ)) → new ≡ old ++ x ∷ [] → x.thread ≡ t
+          → x.state ≡ label_by own_code form_code form_of merge n → Fits rules program n
+          → IsFindingOf rules program n x.finding
+          → PutsStep (machine_of rules program) (IsFindingOf rules program)
+          (label_by own_code form_code form_of merge) s t old new
+      puts_twin n leads own_code form_code old new x pushed is_thread label n_fits is =
+          let u = one_step merge c s n t (one_turned merge s c s_fits c_fits one) leads in
+          let u_fits = step_fits rules program s s_fits lawful t u.0 u.1 in
+          rw u.1 (
+            x,
+            pushed,
+            is_thread,
+            label ∙ one_label own_code form_code merge n u.0 n_fits u_fits u.2,
+            one_found merge n u.0 n_fits u_fits u.2 x.finding is,
+            u_fits,
+          )
 
       -- where c has no step, s has none
       pub puts_none : (label_of : State Machine Memory Place Form → List ℕ)
@@ -111,7 +99,7 @@ module _ {Machine Memory Place Form : Type 0} (rules : Rules Memory Place) (prog
           by : (o : Option (State Machine Memory Place Form)) → step rules program s t ≡ o
               → Puts (machine_of rules program) (IsFindingOf rules program) label_of t old new o
           by None is = same
-          by (Some u) is = absurd (let v = one_step merge s c u t one is in cc (none, v.1))
+          by (Some u) is = cc (none, (one_step merge s c u t one is).1)
 
 -- what is read from a label counts as one with each state that has it
 pub read_stands : {Machine Memory Place Form : Type 0} (rules : Rules Memory Place) (program : Program)
@@ -149,6 +137,6 @@ source_of front_code behind_code rules own_code form_code form_of taken offsets 
       steps_fit = omega (arith, stands.steps, of.bounded);
       sound = one_found (rules key.machine) key.program (form_of key.machine) lawful forms key.merge of.state c of.fits
           stands.fits stands.counts (found.Sound order)
-          (subst (IsFindingOf (rules key.machine) key.program of.state) sound of.finding);
+          (rw sound at of.finding);
       counts = (λ r r_fits r_is. (read.stands key.merge key.program limits r r_fits r_is).counts);
     }

@@ -1,6 +1,6 @@
 -- The way from entry 0 to an entry.
 use Rattle.std.proofs.Common.{◌≡◌, ℕ, ◌+◌, ◌<◌, inl, inr, Bool, Some, None, List, [], ◌∷◌, ◌++◌, length, reverse, refl}
-use Rattle.std.proofs.Common.{sym, ap, ◌∙◌, arith, slice_get, subst}
+use Rattle.std.proofs.Common.{sym, ap, ◌∙◌, arith, subst}
 use Rattle.std.proofs.lemmas.Bool.{cases_lt}
 use Rattle.std.proofs.lemmas.List.{reverse-append, reverse-reverse}
 use Rattle.std.proofs.lemmas.Option.{option_and_then_some, same_Some, slice_get_within}
@@ -14,24 +14,20 @@ use Rattle.book.specs.Ways.{IsWay}
 module _ {S : Type 0} (m : StepMachine S) (machine : IsMachine m) where
   -- how many steps the state after a schedule has
   steps_along : (c : List ℕ) (r s : S) → run m r c ≡ Some s → m.steps s ≡ m.steps r + length c
-  steps_along [] r s h = let e : r ≡ s = cc in let q : m.steps r ≡ m.steps s = ap m.steps e in omega arith
+  steps_along [] r s h = let e : r ≡ s = cc in rw e (omega arith)
   steps_along (t ∷ c) r s h =
       option_and_then_some (λ (u : S). run m u c) (m.step r t) s h
-      (λ (u : S) (first : m.step r t ≡ Some u) (rest : run m u c ≡ Some s).
-      let a : m.steps u ≡ m.steps r + 1 = machine.one_more r u t first in
-      let b : m.steps s ≡ m.steps u + length c = steps_along c u s rest in omega arith)
+      (λ u first rest. omega (arith, machine.one_more r u t first, steps_along c u s rest))
 
   pub steps_after : (c : List ℕ) (s : S) → after m c ≡ Some s → m.steps s ≡ length c
-  steps_after c s h = let a : m.steps s ≡ m.steps m.start + length c = steps_along c m.start s h in
-      let z : m.steps m.start ≡ 0 = machine.from_zero in omega arith
+  steps_after c s h = omega (arith, steps_along c m.start s h, machine.from_zero)
 
   -- each state on the way is one of the machine
   pub fits_along : (c : List ℕ) (r s : S) → m.Fits r → run m r c ≡ Some s → m.Fits s
-  fits_along [] r s fits h = let e : r ≡ s = cc in subst m.Fits e fits
+  fits_along [] r s fits h = let e : r ≡ s = cc in rw (← e) fits
   fits_along (t ∷ c) r s fits h =
       option_and_then_some (λ (u : S). run m u c) (m.step r t) s h
-      (λ (u : S) (first : m.step r t ≡ Some u) (rest : run m u c ≡ Some s).
-      fits_along c u s (machine.step_fits r u t fits first) rest)
+      (λ u first rest. fits_along c u s (machine.step_fits r u t fits first) rest)
 
   pub fits_after : (c : List ℕ) (s : S) → after m c ≡ Some s → m.Fits s
   fits_after c s h = fits_along c m.start s machine.start_fits h
@@ -51,8 +47,7 @@ module _ {S : Type 0} (m : StepMachine S) (same : S → S → Bool) (right : S �
               rw is at made.earlier,
               rw is at made.step,
             ))
-        | inr none ↦ absurd (
-            let first : k ≡ 0 = omega arith in cc (first, at, law.start.1, law.start.3, recorded))
+        | inr none ↦ let first : k ≡ 0 = omega arith in cc (first, at, law.start.1, law.start.3, recorded)
       ]
 
   -- one step back along the way
@@ -69,8 +64,7 @@ module _ {S : Type 0} (m : StepMachine S) (same : S → S → Bool) (right : S �
   no_origin : (k : ℕ) (e : Entry S) → At es k e → e.origin ≡ None → k ≡ 0
   no_origin k e at none =
       elim (cases_lt 0 k) [
-        | inl later ↦ absurd (let made = law.origins k e at later in
-            let both : None ≡ Some made.origin = sym none ∙ made.recorded in cc)
+        | inl later ↦ let made = law.origins k e at later in cc (none, made.recorded)
         | inr least ↦ omega arith
       ]
 
@@ -82,13 +76,11 @@ module _ {S : Type 0} (m : StepMachine S) (same : S → S → Bool) (right : S �
   -- the recorded way is a run of the machine
   pub way_leads : (c : List ℕ) (i j : ℕ) (e f : Entry S) → At es i e → At es j f → IsWay es i c j
       → run m e.state c ≡ Some f.state
-  way_leads [] i j e f at there way =
-      ap (λ (x : Entry S). Some x.state) (same_Some e f (sym at ∙ ap (λ n. slice_get es n) way ∙ there))
+  way_leads [] i j e f at there way = rw (same_Some e f (sym (rw way at at) ∙ there)) refl
   way_leads (t ∷ c) i j e f at there way =
       let made = step_of way.0 way.1 (record { parent = i; thread = t }) way.2 way.3 in
-      let parent : made.0 ≡ e = same_Some made.0 e (sym made.1 ∙ at) in
-      let first : m.step e.state t ≡ Some way.1.state = rw parent at made.3 in
-      rw first (way_leads c way.0 j way.1 f way.2 there way.4)
+      let parent : made.0 ≡ e = cc (made.1, at) in
+      rw (rw parent at made.3) (way_leads c way.0 j way.1 f way.2 there way.4)
 
   -- from the start it reaches the entry's state, in as many steps as this has behind it
   pub way_run : IsMachine m → (c : List ℕ) (j : ℕ) (f : Entry S) → At es j f → IsWay es 0 c j
@@ -106,7 +98,7 @@ module _ {S : Type 0} (m : StepMachine S) (same : S → S → Bool) (right : S �
 
   back_further : (c : List ℕ) (i j k t : ℕ) (e : Entry S) → At es k e
       → e.origin ≡ Some (record { parent = i; thread = t }) → IsWayBack k j c → IsWayBack i j (c ++ t ∷ [])
-  back_further [] i j k t e at origin way = (i, e, ap (λ n. slice_get es n) (sym way) ∙ at, origin, refl)
+  back_further [] i j k t e at origin way = (i, e, rw way at at, origin, refl)
   back_further (u ∷ c) i j k t e at origin way =
       (way.0, way.1, way.2, way.3, back_further c i way.0 k t e at origin way.4)
 
@@ -117,7 +109,7 @@ module _ {S : Type 0} (m : StepMachine S) (same : S → S → Bool) (right : S �
 
   -- the start has no origin
   start_ends : (j : ℕ) (e : Entry S) (o : Origin) → 0 ≡ j → At es j e → e.origin ≡ Some o → ⊥
-  start_ends j e o first at origin = let made = step_of j e o at origin in let h : o.parent < j = made.2 in omega arith
+  start_ends j e o first at origin = omega (arith, (step_of j e o at origin).2)
 
   back_once : (c d : List ℕ) (j : ℕ) → IsWayBack 0 j c → IsWayBack 0 j d → c ≡ d
   back_once [] [] j way also = refl
@@ -128,13 +120,12 @@ module _ {S : Type 0} (m : StepMachine S) (same : S → S → Bool) (right : S �
       let o : Origin = record { parent = way.0; thread = t } in
       let p : Origin = record { parent = also.0; thread = u } in
       let origin : o ≡ p = cc (way.2, also.2, way.3, also.3) in
-      let parent : also.0 ≡ way.0 = ap (λ (q : Origin). q.parent) (sym origin) in
-      let rest : c ≡ d = back_once c d way.0 way.4 (rw parent at also.4) in
+      let parent : way.0 ≡ also.0 = ap (λ (q : Origin). q.parent) origin in
       let thread : t ≡ u = ap (λ (q : Origin). q.thread) origin in
-      cc
+      rw (thread, back_once c d also.0 (rw parent at way.4) also.4) refl
 
   -- there is only one way from entry 0 to an entry
   pub one_way : (c d : List ℕ) (j : ℕ) → IsWay es 0 c j → IsWay es 0 d j → d ≡ c
   one_way c d j way also =
-      let turned : reverse d ≡ reverse c = back_once (reverse d) (reverse c) j (back d 0 j also) (back c 0 j way) in
-      sym (reverse-reverse d) ∙ ap (λ (xs : List ℕ). reverse xs) turned ∙ reverse-reverse c
+      sym (reverse-reverse d)
+      ∙ rw (back_once (reverse d) (reverse c) j (back d 0 j also) (back c 0 j way)) (reverse-reverse c)

@@ -1,17 +1,16 @@
 -- The step is appended as the state that it reaches, with its finding.
 use Rattle.std.proofs.Common.{ap, Err, refl, ◌∙◌}
-use Rattle.replay.specs.Findings.{machine_of, IsFindingOf}
-use Rattle.book.proofs.ThreadSteps.{puts_next}
 use Rattle.book.proofs.expansion.put_step.Goals as goal
 
 pub returns-clause-put : goal.returns-clause-put
-returns-clause-put g c =
-    let rules = g.M.Machine.rules c.args.machine in
-    let m = machine_of {Machine = g.row.M.Denot} {Form = g.row.M-Form.Denot} rules c.args.program.now in
-    let right = IsFindingOf {Machine = g.row.M.Denot} {Form = g.row.M-Form.Denot} rules c.args.program.now in
-    puts_next m right c.args.source.now (λ s. s) c.args.thread c.args.steps.now.items c.push_reserved.new.self.items
-    (record { thread = c.args.thread; state = c.in-Ok.next; finding = c.in_ok-finding.finding }) c.in-Ok.next
-    c.in-Ok.ensures.step c.push_reserved.ensures.items refl refl c.in_ok-finding.ensures c.in-Ok.ensures.fits
+returns-clause-put g c = rw c.in-Ok.ensures.step (
+  record { thread = c.args.thread; state = c.in-Ok.next; finding = c.in_ok-finding.finding },
+  c.push_reserved.ensures.items,
+  refl,
+  refl,
+  c.in_ok-finding.ensures,
+  c.in-Ok.ensures.fits,
+)
 
 pub returns-in-Err-NotEnabled-clause-put : goal.returns-in-Err-NotEnabled-clause-put
 returns-in-Err-NotEnabled-clause-put g c =

@@ -30,8 +30,7 @@ returns-clause-put g c =
     rw (← c.from.view_is) (λ of fits is. puts_twin rules from.key.program.now form_of (bound.lawful from.key.machine)
     (bound.forms from.key.machine) from.key.merge of c.args.state.now c.args.thread fits source.fits
     (source.counts of fits is) next
-    c.in-Ok.ensures.step g.M.Encode.own_code g.M.Encode.form_code c.args.steps.now.items
-    c.push_reserved.new.self.items
+    c.in-Ok.ensures.step g.M.Encode.own_code g.M.Encode.form_code _ _
     (record { thread = c.args.thread; state = c.new.result; finding = c.unwrap_or.result })
     c.push_reserved.ensures.items refl
     (c.new.ensures ∙ (rw c.naming-naming.ensures at c.in_ok-label.ensures)) c.in-Ok.ensures.fits
@@ -46,8 +45,6 @@ returns-in-Err-NotEnabled-clause-put g c =
     let source = rw (← c.from.view_is) at c.requires.source in
     rw (← c.from.view_is) (λ of fits is. puts_none (g.M.Machine.rules from.key.machine) from.key.program.now form_of
     (bound.lawful from.key.machine) (bound.forms from.key.machine) from.key.merge of c.args.state.now c.args.thread fits
-    source.fits
-    (source.counts of fits is)
-    (label_by g.M.Encode.own_code g.M.Encode.form_code form_of from.key.merge) c.args.steps.now.items
-    c.args.steps.now.items
+    source.fits (source.counts of fits is)
+    (label_by g.M.Encode.own_code g.M.Encode.form_code form_of from.key.merge) _ _
     (c.step_here.ensures.no_step.0 (c.in-Err-NotEnabled.is ∙ ap Err c.in-Err-NotEnabled.field-0-is)) refl)

@@ -1,9 +1,6 @@
 -- A step that ended no operation leaves the order as it was, and one that ended the last operation extends it.
-use Rattle.std.proofs.Common.{Some, slice_get, length, ap, sym, ◌∙◌}
+use Rattle.std.proofs.Common.{Some, ap, sym, ◌∙◌}
 use Rattle.std.proofs.lemmas.Option.{same_Some}
-use Rattle.lin.specs.Reply.{HasReplied}
-use Rattle.tree_machine.specs.History.{history_of}
-use Rattle.tree_machine.specs.declared.state.Thread.{Thread}
 use Rattle.book.proofs.Answered.{step_replied}
 use Rattle.book.proofs.Loans.{step_silent}
 use Rattle.book.proofs.lending.find_here.Goals as goal
@@ -18,24 +15,17 @@ returns-in_default-reply_since-clause-none g c =
       shown.1,
       step_silent (g.M.Machine.rules c.args.machine) c.args.program.now c.args.from.now.state.now.value
           c.args.next.now c.args.from.now.thread c.requires.step
-          (λ a b at_a at_b. ap (λ (x : Thread g.row.M-Loc.Denot). slice_get b.replies (length x.replies))
-          (same_Some _ _ (sym at_a ∙ c.requires.back.was) ∙ sym c.thread.ensures)
-          ∙ c.in_default-reply_since.ensures b at_b) c.args.order.now c.requires.sound.2,
+          (λ a b at_a at_b. rw (same_Some _ _ (sym at_a ∙ c.requires.back.was), ← c.thread.ensures)
+          (c.in_default-reply_since.ensures b at_b)) c.args.order.now c.requires.sound.2,
     )
 
 pub returns-clause-some : goal.returns-clause-some
 returns-clause-some g c =
     let shown = c.in_default.ensures.none in
     let ended = c.in-Some-reply_since.ensures in
-    let source = c.args.from.now.state.now.value in
-    let next = c.args.next.now in
-    let name = c.in-Some-reply_since.name in
-    let reply = c.in-Some-reply_since.reply in
-    let replied : HasReplied (history_of source) (history_of next) name reply =
-    step_replied (g.M.Machine.rules c.args.machine) c.args.program.now source next c.args.from.now.thread
-    c.requires.step c.requires.fits c.thread.result.now ended.0 (c.requires.back.was ∙ ap Some (sym c.thread.ensures))
-    ended.1 name reply ended.2 ended.3 ended.4 (c.is_last.ensures.0 c.if-is_last.true) in (
-      shown.0,
-      shown.1,
-      c.in-Some-order_with_reply.ensures.1 (history_of source) (history_of next) replied c.requires.sound.2,
-    )
+    let replied =
+    step_replied (g.M.Machine.rules c.args.machine) c.args.program.now c.args.from.now.state.now.value c.args.next.now
+    c.args.from.now.thread c.requires.step c.requires.fits c.thread.result.now ended.0
+    (c.requires.back.was ∙ ap Some (sym c.thread.ensures)) ended.1 c.in-Some-reply_since.name
+    c.in-Some-reply_since.reply ended.2 ended.3 ended.4 (c.is_last.ensures.0 c.if-is_last.true) in
+    (shown.0, shown.1, c.in-Some-order_with_reply.ensures.1 _ _ replied c.requires.sound.2)

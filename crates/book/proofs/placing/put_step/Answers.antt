@@ -1,58 +1,25 @@
-use Rattle.std.proofs.Common.{◌≡◌, ◌++◌, ◌∷◌, [], ℕ, Option, Some, List, map, refl, sym, ap, ◌∙◌}
-use Rattle.std.specs.Cmp.Lexicographic.{lists_equiv}
-use Rattle.std.specs.Map.{keys_of}
-use Rattle.tree_machine.specs.Laws.CellOrder.{nat_equivalence}
+-- The row of a step is inserted, or its label was there.
 use Rattle.tree_machine.specs.Step.{step}
-use Rattle.book.specs.declared.entry.Mark.TheVariants.{Open}
-use Rattle.book.specs.Entries.{Entry, Successor, opened, states}
-use Rattle.book.specs.Labels.{same_label}
-use Rattle.book.specs.Slots.{AreSteps, keyed_of, unlisted}
-use Rattle.book.specs.Unknown.{unknown}
-use Rattle.book.proofs.Left.{grown_front, grown_same}
-use Rattle.book.proofs.SlotLemmas.{no_steps, one_step, put_step, step_row}
+use Rattle.book.proofs.Lists.{grown_front, grown_same}
+use Rattle.book.proofs.SlotLemmas.{no_steps, one_step, put_step}
 use Rattle.book.proofs.placing.put_step.Goals as goal
-
--- the row of a step is inserted
-module _ {S : Type 0} (es new : List (List ℕ × Entry S)) (i : ℕ) (one : Successor (List ℕ)) (row : Entry S) (s : S)
-    (put : new ≡ es ++ unlisted same_label (keys_of es) ((one.state, row) ∷ []))
-    (is : row ≡ record {
-      state = s;
-      finding = one.finding;
-      origin = Some (record { parent = i; thread = one.thread });
-      mark = Open;
-    }) where
-  under_label : map keyed_of new
-      ≡ map keyed_of es ++ map (opened i) (unknown same_label (states (map keyed_of es)) (one ∷ []))
-  under_label =
-      put_step same_label same_label (lists_equiv nat_equivalence).symm es new i one one.state row put
-      (ap (λ (r : Entry S). keyed_of (one.state, r)) is
-      ∙ step_row i one one.state one.thread one.finding s refl refl refl)
-
-  is_step : (step : S → ℕ → Option S) (source : S) → step source one.thread ≡ Some s → AreSteps step source es new
-  is_step step source leads =
-      one_step step source same_label es new one.state row (record { parent = i; thread = one.thread }) put
-      (ap (λ (r : Entry S). r.origin) is) (leads ∙ ap (λ (r : Entry S). Some r.state) (sym is))
 
 pub returns-in-Some-clause-put : goal.returns-in-Some-clause-put
 returns-in-Some-clause-put g c =
-    under_label _ _ c.args.parent c.args.one c.open-row.result c.shown_step-shown.result.value
-    c.in_ok-known.ensures.put c.open-row.ensures
+    put_step _ _ _ c.args.one _ _ c.in_ok-known.ensures.put c.open-row.ensures
 
 pub returns-in_default-clause-put : goal.returns-in_default-clause-put
 returns-in_default-clause-put g c =
-    under_label _ _ c.args.parent c.args.one c.open-row.result c.shown_step-shown.result.value
-    c.in_ok-known.ensures.put c.open-row.ensures
+    put_step _ _ _ c.args.one _ _ c.in_ok-known.ensures.put c.open-row.ensures
 
 pub returns-in-Some-clause-steps : goal.returns-in-Some-clause-steps
 returns-in-Some-clause-steps g c =
-    is_step _ _ c.args.parent c.args.one c.open-row.result c.shown_step-shown.result.value
-    c.in_ok-known.ensures.put c.open-row.ensures
+    one_step _ _ _ c.args.one _ _ c.in_ok-known.ensures.put c.open-row.ensures
     (step (g.M.Machine.rules c.args.machine) c.args.program.now) c.args.source.now.value c.shown_step-shown.ensures
 
 pub returns-in_default-clause-steps : goal.returns-in_default-clause-steps
 returns-in_default-clause-steps g c =
-    is_step _ _ c.args.parent c.args.one c.open-row.result c.shown_step-shown.result.value
-    c.in_ok-known.ensures.put c.open-row.ensures
+    one_step _ _ _ c.args.one _ _ c.in_ok-known.ensures.put c.open-row.ensures
     (step (g.M.Machine.rules c.args.machine) c.args.program.now) c.args.source.now.value c.shown_step-shown.ensures
 
 pub returns-in-Some-clause-kept : goal.returns-in-Some-clause-kept

@@ -1,4 +1,4 @@
-use Rattle.std.proofs.Common.{◌≡◌, ◌<◌, length, true, not, sym, ap, ◌∙◌, arith}
+use Rattle.std.proofs.Common.{◌≡◌, true, not, sym, ap, ◌∙◌, arith}
 use Rattle.std.proofs.lemmas.Option.{slice_get_within}
 use Rattle.book.specs.Entries.{Entry}
 use Rattle.replay.specs.Findings.{is_sound}
@@ -25,6 +25,4 @@ returns g c =
     let es = entries_of c.args.slots.now.entries in
     let l = length-entries c.args.slots.now.entries in
     sym (none_is (λ (e : Entry g.row.S.Denot). not (is_sound e.finding)) es
-    (λ k y there. ap not
-    (c.loop-index.invariant k y there
-    (let w : k < length es = slice_get_within es k y there in omega arith))))
+    (λ k y there. ap not (c.loop-index.invariant k y there (omega (arith, slice_get_within es k y there)))))

@@ -1,4 +1,4 @@
-use Rattle.std.proofs.Common.{◌≡◌, ◌<◌, length, sym, ◌∙◌, arith}
+use Rattle.std.proofs.Common.{◌≡◌, sym, ◌∙◌, arith}
 use Rattle.std.proofs.lemmas.Option.{slice_get_within}
 use Rattle.book.specs.declared.entry.Mark.TheVariants.{Expanded}
 use Rattle.book.specs.Entries.{Entry}
@@ -21,7 +21,6 @@ returns g c =
     record {
       expanded = (λ i e at less. c.loop-index.invariant i e at (omega arith));
       stops = (λ e at. absurd
-          (let w : c.len.result < length (entries_of c.args.slots.now.entries) = slice_get_within
-          (entries_of c.args.slots.now.entries) c.len.result e at in omega arith));
+          (omega (arith, slice_get_within (entries_of c.args.slots.now.entries) c.len.result e at)));
       within = omega arith;
     }

@@ -1,8 +1,6 @@
-use Rattle.std.proofs.Common.{◌≡◌, ◌<◌, ◌≤◌, [], ◌∷◌, ◌++◌, ◌∙◌, length, sym, ap, arith}
+use Rattle.std.proofs.Common.{◌≤◌, length, sym, arith}
 use Rattle.std.proofs.lemmas.List.{take_all}
 use Rattle.tree_machine.proofs.Lists.{get_at}
-use Rattle.replay.specs.Text.Files.{ended}
-use Rattle.replay.specs.Text.Written.{head_text}
 use Rattle.book.proofs.BookFile.Writable.{written_none, written_next, written_all}
 use Rattle.book.proofs.writing.write_entries.Goals as goal
 
@@ -10,29 +8,26 @@ pub loop-index-init : goal.loop-index-init
 loop-index-init g c =
     let entries = c.args.table.now.entries in
     written_none (length entries) entries c.new-text.result.items c.push_head.new.text.items c.push_start.new.text.items
-    c.new-text.ensures.items
-    (c.in_ok-push_head.ensures ∙ ap (λ n. c.new-text.result.items ++ ended (head_text n ∷ [])) c.len.ensures)
-    c.in_ok-push_start.ensures
+    c.new-text.ensures.items (rw c.len.ensures at c.in_ok-push_head.ensures) c.in_ok-push_start.ensures
 
 pub unreachable-requires : goal.unreachable-requires
 unreachable-requires g c =
-    let below : c.loop-index.index < c.len-index-end.result = c.loop-index-test.true in
-    let end : c.len-index-end.result ≡ length c.args.table.now.entries = c.len-index-end.ensures in
-    let there = get_at c.args.table.now.entries c.loop-index.index (omega arith) in
-    absurd (cc (c.in_default.ensures, there.1))
+    let there = get_at c.args.table.now.entries c.loop-index.index
+    (omega (arith, c.loop-index-test.true, c.len-index-end.ensures)) in
+    cc (c.in_default.ensures, there.1)
 
 pub loop-index-preserved : goal.loop-index-preserved
 loop-index-preserved g c =
     let entries = c.args.table.now.entries in
     let w = c.in_ok-push_row.ensures in
-    let some : 1 ≤ c.loop-index.index = c.loop-index.auto.index in
     written_next (length entries) entries c.loop-index.index c.in-Some.row.now w.0 c.loop-index.text.items
-    c.push_row.new.text.items (sym c.in-Some.ensures) (omega arith) w.1 w.2 w.3 c.loop-index.invariant
+    c.push_row.new.text.items (sym c.in-Some.ensures) (omega (arith, c.loop-index.auto.index)) w.1 w.2 w.3
+    c.loop-index.invariant
 
 pub returns : goal.returns
 returns g c =
     let entries = c.args.table.now.entries in
-    let past : c.len-index-end.result ≤ c.loop-index.index = c.loop-index-test.false in
-    let end : c.len-index-end.result ≡ length entries = c.len-index-end.ensures in
+    let done : length entries ≤ c.loop-index.index =
+    omega (arith, c.loop-index-test.false, c.len-index-end.ensures) in
     written_all entries c.loop-index.text.items c.requires.some c.requires.bounded
-    (rw (take_all c.loop-index.index entries (omega arith)) at c.loop-index.invariant)
+    (rw (take_all c.loop-index.index entries done) at c.loop-index.invariant)

@@ -1,6 +1,5 @@
 use Rattle.std.proofs.Common.{rules, ◌≡◌, ◌∙◌, sym}
 use Rattle.std.specs.Prelude.{◌↔◌, IsTrue}
-use Rattle.std.proofs.lemmas.Bool.{true≢false}
 use Rattle.options.specs.declared.options.Merge.TheVariants.{Names}
 use Rattle.book.specs.Books.{machine_in, right_in}
 use Rattle.replay.specs.Schedule.{AreOneBy}
@@ -12,7 +11,7 @@ pub returns-in-Some-clause-closed : goal.returns-in-Some-clause-closed
 returns-in-Some-clause-closed g c =
     let s = c.self.inside in
     rw (← c.self.view_is) (
-      (λ h. absurd (true≢false (sym h))),
+      (λ h. cc),
       (λ h. absurd (left_out s.table.entries c.in-Some.field-0 (sym c.first_left.ensures ∙ c.in-Some.is) h.1)),
     )
 
@@ -37,4 +36,4 @@ returns-in-None-clause-every g c =
     b.entries tested.law (rw (← c.self.view_is) out) sound
 
 pub returns-in-Some-clause-every : goal.returns-in-Some-clause-every
-returns-in-Some-clause-every g c = λ h. absurd (true≢false (sym h))
+returns-in-Some-clause-every g c = λ h. cc

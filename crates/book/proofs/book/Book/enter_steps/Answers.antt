@@ -3,8 +3,7 @@ use Rattle.book.specs.declared.entry.Mark.TheVariants.{Expanded}
 use Rattle.book.specs.Entries.{IsTaken}
 use Rattle.std.proofs.lemmas.Option.{same_Some}
 use Rattle.book.proofs.Labels.{known_mark}
-use Rattle.book.proofs.Putting.{book_entered, entered_bounded, enters, full_for, grown, here_enabled, is_taken_still}
-use Rattle.book.proofs.Putting.{met_is_small}
+use Rattle.book.proofs.Putting.{book_entered, counts_fit, enters, full_for, here_enabled}
 use Rattle.book.proofs.book.Book.enter_steps.Given.{Over}
 use Rattle.book.proofs.book.Book.enter_steps.Goals.{After-len}
 use Rattle.book.proofs.book.Book.enter_steps.Goals as goal
@@ -23,13 +22,8 @@ put g c =
     let taken = rw (← c.self.view_is) at c.requires.taken in
     let steps = (rw (← c.self.view_is) at c.requires.steps) taken.0 taken.1 in
     let added = (c.in-Ok.ensures.put _ taken.0 c.self.invariant.1 taken.1 steps.labels).0 in
-    let book = c.self.invariant.0 in
-    let count = c.len-count.ensures ∙ c.args.steps.ok.0 in (
-      grown book _ _ taken.1 _ steps taken.2 _ added _ _ _ c.len-was.ensures c.len.ensures count,
-      entered_bounded book _ _ taken.1 _ steps taken.2 _ added _ _ _ c.len-was.ensures c.len.ensures count,
-      is_taken_still book _ _ taken.1 _ steps taken.2 _ added _ _ _ c.len-was.ensures c.len.ensures count,
-      met_is_small book _ _ taken.1 _ steps taken.2 _ added _ _ _ c.len-was.ensures c.len.ensures count,
-    )
+    counts_fit c.self.invariant.0 _ _ taken.1 _ steps taken.2 _ added _ _ _ c.len-was.ensures c.len.ensures
+    (c.len-count.ensures ∙ c.args.steps.ok.0)
 
 pub overflow_sub-entered : goal.overflow_sub-entered
 overflow_sub-entered g c = (put g (goal.at.overflow_sub-entered g c).After-len).0

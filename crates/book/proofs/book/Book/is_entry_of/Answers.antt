@@ -1,6 +1,6 @@
-use Rattle.std.proofs.Common.{rules, ◌≡◌, ap, sym, ◌∙◌}
-use Rattle.std.specs.Prelude.{◌↔◌, IsTrue, nat_eq}
-use Rattle.std.specs.Cmp.Lexicographic.{lists_equiv, pointwise}
+use Rattle.std.proofs.Common.{rules, ◌≡◌, sym, ◌∙◌}
+use Rattle.std.specs.Prelude.{◌↔◌, IsTrue}
+use Rattle.std.specs.Cmp.Lexicographic.{lists_equiv}
 use Rattle.std.proofs.lemmas.Bool.{true≢false}
 use Rattle.sched_program.specs.Laws.Exact.{nat_exact, list_exact}
 use Rattle.tree_machine.specs.Laws.CellOrder.{nat_equivalence}
@@ -23,10 +23,13 @@ returns-then-eq g c =
             ∙ list_exact nat_exact c.label.result.now c.as_slice.result.now (sym c.eq-then-eq.ensures ∙ yes)
             ∙ c.as_slice.ensures;
       }),
-      (λ is. c.eq-then-eq.ensures
-          ∙ ap (pointwise nat_eq c.label.result.now)
-          (c.as_slice.ensures ∙ sym (is.label taken.0 taken.1) ∙ sym (label taken.0 taken.1 _ c.label.ensures))
-          ∙ (lists_equiv nat_equivalence).refl c.label.result.now),
+      (λ is. rw (
+        c.eq-then-eq.ensures,
+        c.as_slice.ensures,
+        ← is.label taken.0 taken.1,
+        ← label taken.0 taken.1 _ c.label.ensures,
+      )
+          ((lists_equiv nat_equivalence).refl c.label.result.now)),
     )
 
 pub returns-else-eq : goal.returns-else-eq

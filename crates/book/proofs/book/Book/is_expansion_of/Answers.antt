@@ -14,7 +14,6 @@ label-requires g c =
 pub returns-in-Exact-clause-answer : goal.returns-in-Exact-clause-answer
 returns-in-Exact-clause-answer g c =
     let s = c.self.inside in
-    let x = c.args.expansion.now in
     let coding = g.met.M.Encode g.world.𝓛 g.world.𝓜 g.world.𝓡 ((λ s x. x), (λ x. x), (λ x. x), λ x. x) in
     let tells = own_tells g.M.Encode.front_code g.M.Encode.behind_code g.M.Encode.own_code coding.tells
     coding.own_cut in
@@ -24,9 +23,8 @@ returns-in-Exact-clause-answer g c =
     s.table c.self.invariant.1 c.args.id taken.0 taken.1 c.label.result.now c.label.ensures in
     rw (← c.self.view_is) (
       (λ yes. let own = c.is_coded.ensures.0 yes in
-          own_from {X = g.row.M.Denot} _ c.args.id taken.0 x.machine x.program x.source taken.0.state taken.1 refl
-          own.0 own.1
-          (state_code_tells g.M.Encode.own_code tells x.source taken.0.state (own.2 ∙ code))),
+          own_from {X = g.row.M.Denot} _ _ _ _ _ _ _ taken.1 refl own.0 own.1
+          (state_code_tells g.M.Encode.own_code tells _ _ (own.2 ∙ code))),
       (λ own. c.is_coded.ensures.1 (
         own.machine,
         own.program,
@@ -36,12 +34,9 @@ returns-in-Exact-clause-answer g c =
 
 pub returns-in_ok-state-in-Names-clause-answer : goal.returns-in_ok-state-in-Names-clause-answer
 returns-in_ok-state-in-Names-clause-answer g c =
-    let s = c.self.inside in
-    let x = c.args.expansion.now in
     let there = rw (← c.self.view_is) at c.in_ok-state-in-Names.ensures in
     rw (← c.self.view_is) (
       (λ yes. let own = c.is_of.ensures.0 yes in
-          own_from {X = g.row.M.Denot} _ c.args.id there.0 x.machine x.program x.source c.in_ok-state-in-Names.state
-          there.1 (sym there.2) own.0 own.1 own.2),
+          own_from {X = g.row.M.Denot} _ _ _ _ _ _ _ there.1 (sym there.2) own.0 own.1 own.2),
       (λ own. c.is_of.ensures.1 (own.machine, own.program, own.source there.0 there.1 ∙ there.2)),
     )

@@ -14,9 +14,9 @@ invariant_of-result g c =
     rw (first.3, first.4) (
       first_book g.M.Machine.rules g.M.Machine.form_of g.M.Encode.own_code g.M.Encode.form_code
           (state_code_tells g.M.Encode.own_code tells) coding.form_tells c.args.machine c.args.program
-          c.args.merge c.args.limit first.0 first.1 (bound.lawful c.args.machine) (bound.forms c.args.machine)
-          (subst IsWithinLimits c.program.view_is c.program.invariant) first.2 first.5 first.6
-          c.requires.some c.requires.bounded,
+          (bound.lawful c.args.machine) (bound.forms c.args.machine)
+          (subst IsWithinLimits c.program.view_is c.program.invariant) c.args.merge c.args.limit first.0 first.1 first.2
+          first.5 first.6 c.requires.some c.requires.bounded,
       refl,
     )
 

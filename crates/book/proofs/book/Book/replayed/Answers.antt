@@ -1,4 +1,4 @@
-use Rattle.std.proofs.Common.{◌≡◌, Some, ap, refl, sym, ◌∙◌}
+use Rattle.std.proofs.Common.{◌≡◌, Some, refl}
 use Rattle.std.proofs.lemmas.Result.{IfOk-weaker}
 use Rattle.replay.specs.Findings.{machine_of}
 use Rattle.replay.specs.Schedule.{after}
@@ -15,7 +15,6 @@ returns g c =
     let m =
     machine_of {Machine = g.row.M.Denot} {Form = g.row.M-Form.Denot} (g.M.Machine.rules s.machine) s.program in
     let leads = rw (← c.self.view_is) at c.in_ok-schedule.ensures.leads in
-    let there : after m c.as_slice.result.now ≡ Some leads.0.state = ap (after m) c.as_slice.ensures.value ∙ leads.2 in
     rw (← c.self.view_is) (IfOk-weaker c.state_after.result (λ end. after m c.as_slice.result.now ≡ Some end) _
-    (λ end is. (leads.0, leads.1, (let q : Some leads.0.state ≡ Some end = sym there ∙ is in cc)))
+    (λ end is. (leads.0, leads.1, cc (leads.2, rw c.as_slice.ensures.value at is)))
     c.state_after.ensures.state)

@@ -10,29 +10,25 @@ origin-requires g c = rw (← c.self.view_is) at c.loop-origin.invariant.0
 
 pub loop-origin-smaller : goal.loop-origin-smaller
 loop-origin-smaller g c =
-    earlier_origin c.self.invariant.0 c.args.self.now c.self.view_is c.loop-origin.at c.args.id
-    c.loop-origin.schedule.items c.origin.result c.origin.ensures c.in-Some.origin c.in-Some.is
+    earlier_origin c.self.invariant.0 _ c.self.view_is c.loop-origin.at c.args.id c.loop-origin.schedule.items _
+    c.origin.ensures _ c.in-Some.is
 
 pub loop-origin-preserved : goal.loop-origin-preserved
 loop-origin-preserved g c =
     rw c.in_ok-push.ensures.items
-    (one_back c.self.invariant.0 c.args.self.now c.self.view_is c.loop-origin.at c.args.id
-    c.loop-origin.schedule.items c.origin.result c.origin.ensures
-    c.in-Some.origin c.in-Some.is c.loop-origin.invariant.1)
+    (one_back c.self.invariant.0 _ c.self.view_is c.loop-origin.at c.args.id c.loop-origin.schedule.items _
+    c.origin.ensures _ c.in-Some.is c.loop-origin.invariant.1)
 
 pub returns-clause-way : goal.returns-clause-way
 returns-clause-way g c =
     rw c.reverse.ensures.items
-    (at_start c.self.invariant.0 c.args.self.now c.self.view_is c.loop-origin.at c.args.id
-    (reverse c.loop-origin.schedule.items) c.origin.result c.origin.ensures
-    c.in_default.is c.loop-origin.invariant.1)
+    (at_start c.self.invariant.0 _ c.self.view_is c.loop-origin.at c.args.id (reverse c.loop-origin.schedule.items) _
+    c.origin.ensures c.in_default.is c.loop-origin.invariant.1)
 
 pub returns-clause-leads : goal.returns-clause-leads
 returns-clause-leads g c =
-    way_leads_to c.self.invariant.0 c.args.self.now c.self.view_is c.reverse.new.self.items c.args.id c.requires
-    (returns-clause-way g c)
+    way_leads_to c.self.invariant.0 _ c.self.view_is _ c.args.id c.requires (returns-clause-way g c)
 
 pub returns-clause-only : goal.returns-clause-only
 returns-clause-only g c =
-    λ d also. no_other_way c.self.invariant.0 c.args.self.now c.self.view_is c.reverse.new.self.items d c.args.id
-    (returns-clause-way g c) also
+    λ d also. no_other_way c.self.invariant.0 _ c.self.view_is _ d c.args.id (returns-clause-way g c) also

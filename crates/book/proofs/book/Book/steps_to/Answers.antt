@@ -1,4 +1,4 @@
-use Rattle.std.proofs.Common.{◌≡◌, ◌<◌, ◌≤◌, ◌+◌, ◌++◌, ◌∷◌, [], ◌∙◌, arith, length, refl, reverse, sym}
+use Rattle.std.proofs.Common.{◌++◌, ◌∷◌, [], ◌∙◌, arith, refl, reverse, sym}
 use Rattle.std.proofs.lemmas.List.{length-reverse, length_push}
 use Rattle.book.proofs.InBook.{at_start, earlier_origin, one_back, way_leads_to}
 use Rattle.book.proofs.book.Book.steps_to.Goals as goal
@@ -11,28 +11,29 @@ origin-requires g c = rw (← c.self.view_is) at c.loop-origin.invariant.0
 
 pub loop-origin-smaller : goal.loop-origin-smaller
 loop-origin-smaller g c =
-    earlier_origin c.self.invariant.0 c.args.self.now c.self.view_is c.loop-origin.at c.args.id
-    c.loop-origin.invariant.2.0 c.origin.result c.origin.ensures c.in-Some.origin c.in-Some.is
+    earlier_origin c.self.invariant.0 _ c.self.view_is c.loop-origin.at c.args.id c.loop-origin.invariant.2.0 _
+    c.origin.ensures _ c.in-Some.is
 
 pub loop-origin-preserved : goal.loop-origin-preserved
 loop-origin-preserved g c =
     let noted = c.loop-origin.invariant.2 in
     let back =
-    one_back c.self.invariant.0 c.args.self.now c.self.view_is c.loop-origin.at c.args.id noted.0 c.origin.result
-    c.origin.ensures c.in-Some.origin c.in-Some.is noted.2 in
-    let earlier : c.in-Some.origin.parent < c.loop-origin.at = loop-origin-smaller g c in
-    let so_far : c.loop-origin.steps + c.loop-origin.at ≤ c.args.id = c.loop-origin.invariant.1 in
-    let longer : length (noted.0 ++ c.in-Some.origin.thread ∷ []) ≡ length noted.0 + 1 =
-    length_push noted.0 c.in-Some.origin.thread in
-    let count : length noted.0 ≡ c.loop-origin.steps = noted.1 in
-    (back.0, omega arith, (noted.0 ++ c.in-Some.origin.thread ∷ [], omega arith, back.1))
+    one_back c.self.invariant.0 _ c.self.view_is c.loop-origin.at c.args.id noted.0 _ c.origin.ensures _ c.in-Some.is
+    noted.2 in (
+      back.0,
+      omega (arith, loop-origin-smaller g c, c.loop-origin.invariant.1),
+      (
+        noted.0 ++ c.in-Some.origin.thread ∷ [],
+        omega (arith, length_push noted.0 c.in-Some.origin.thread, noted.1),
+        back.1,
+      ),
+    )
 
 pub returns : goal.returns
 returns g c =
     let noted = c.loop-origin.invariant.2 in
     let way =
-    at_start c.self.invariant.0 c.args.self.now c.self.view_is c.loop-origin.at c.args.id
-    (reverse noted.0) c.origin.result c.origin.ensures c.in_default.is noted.2 in
-    let leads =
-    way_leads_to c.self.invariant.0 c.args.self.now c.self.view_is (reverse noted.0) c.args.id c.requires way in
+    at_start c.self.invariant.0 _ c.self.view_is c.loop-origin.at c.args.id (reverse noted.0) _ c.origin.ensures
+    c.in_default.is noted.2 in
+    let leads = way_leads_to c.self.invariant.0 _ c.self.view_is (reverse noted.0) c.args.id c.requires way in
     (leads.0, leads.1, sym leads.3 ∙ length-reverse noted.0 ∙ noted.1)

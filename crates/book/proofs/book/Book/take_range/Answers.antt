@@ -38,8 +38,7 @@ returns-clause-taken g c =
 
 pub mark_range_taken-requires-clause-some : goal.mark_range_taken-requires-clause-some
 mark_range_taken-requires-clause-some g c =
-    let at = c.steps_to.ensures in
-    grind (arith, c.first_above-end.ensures.above c.in-Some.start at.0 at.1, at.2)
+    omega (arith, (layer g (goal.at.mark_range_taken-requires-clause-some g c).After-first_above-end).some)
 
 pub mark_range_taken-requires-clause-within : goal.mark_range_taken-requires-clause-within
 mark_range_taken-requires-clause-within g c = rw (← c.self.view_is) at c.first_above-end.ensures.within

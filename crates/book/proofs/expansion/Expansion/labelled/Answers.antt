@@ -1,6 +1,6 @@
 -- The steps are labelled one after the other.
-use Rattle.std.proofs.Common.{◌≡◌, ◌<◌, ◌+◌, ◌++◌, ◌∷◌, [], ℕ, List, length, map, take, get_or, refl, ap}
-use Rattle.std.proofs.Common.{arith, sym, ◌∙◌}
+use Rattle.std.proofs.Common.{◌≡◌, ◌<◌, ◌+◌, ◌++◌, ◌∷◌, [], ℕ, List, length, map, take, get_or, refl}
+use Rattle.std.proofs.Common.{arith, ◌∙◌}
 use Rattle.std.proofs.lemmas.List.{map_push, take_more}
 use Rattle.std.proofs.lemmas.Option.{slice_get_read}
 use Rattle.book.specs.declared.successor.Successor.{Successor}
@@ -13,12 +13,8 @@ labelled_more : {S : Type 0} (label_of : S → List ℕ) (made : List (Successor
     → made ≡ map (labelled label_of) (take i xs) → l ≡ label_of x.state
     → made ++ record { thread = x.thread; state = l; finding = x.finding } ∷ []
     ≡ map (labelled label_of) (take (i + 1) xs)
-labelled_more {S} label_of made xs i x l within is so_far label =
-    let f : Successor S → Successor (List ℕ) = labelled label_of in
-    let by : List ℕ → Successor (List ℕ) = λ k. record { thread = x.thread; state = k; finding = x.finding } in
-    ap (λ ys. ys ++ by l ∷ []) so_far ∙ ap (λ k. map f (take i xs) ++ by k ∷ []) label
-    ∙ ap (λ y. map f (take i xs) ++ f y ∷ []) is ∙ sym (map_push f (take i xs) (get_or xs i x))
-    ∙ sym (ap (map f) (take_more xs i x within))
+labelled_more label_of made xs i x l within is so_far label =
+    rw (take_more xs i x within, map_push (labelled label_of) (take i xs) (get_or xs i x), ← is, so_far, label) refl
 
 pub label-requires-after_bounds : goal.label-requires-after_bounds
 label-requires-after_bounds g c κs within =
@@ -38,6 +34,5 @@ loop-one-preserved g c =
           c.in_ok-label.label (rw c.deref-one-items.ensures.value at c.loop-one-test.true)
           (rw c.deref-one-items.ensures.value at c.one-item.is)
           (rw (← c.self.view_is) at c.loop-one.invariant.steps) c.in_ok-label.ensures);
-      room = (let same = c.push_reserved.ensures.capacity in
-          let enough = c.loop-one.invariant.room in omega (arith, same, enough));
+      room = omega (arith, c.push_reserved.ensures.capacity, c.loop-one.invariant.room);
     }

@@ -1,4 +1,3 @@
-use Rattle.std.proofs.Common.{◌≤◌, length, ap, arith}
 use Rattle.book.specs.declared.entry.Mark.TheVariants.{Expanded}
 use Rattle.book.specs.Slots.{entries_of}
 use Rattle.book.proofs.EntryLemmas.{length-with_mark}
@@ -15,11 +14,12 @@ first_left_from-self-inside-requires-clause-before g c =
 pub first_left_from-self-inside-requires-clause-within : goal.first_left_from-self-inside-requires-clause-within
 first_left_from-self-inside-requires-clause-within g c =
     let s = c.self.inside in
-    let n = length-entries c.mark_at.new.slots.entries in
-    let m = ap length c.mark_at.ensures.entries in
-    let l = length-with_mark (entries_of s.slots.entries) c.args.index Expanded in
-    let w : s.first_left ≤ length (entries_of s.slots.entries) = c.self.invariant.left.within in
-    omega arith
+    rw (
+      ← length-entries c.mark_at.new.slots.entries,
+      c.mark_at.ensures.entries,
+      length-with_mark (entries_of s.slots.entries) c.args.index Expanded,
+    )
+    c.self.invariant.left.within
 
 pub invariant_of-self : goal.invariant_of-self
 invariant_of-self g c =

@@ -1,6 +1,5 @@
-use Rattle.std.proofs.Common.{◌≡◌, length, ap, sym, arith}
+use Rattle.std.proofs.Common.{sym, arith}
 use Rattle.std.proofs.lemmas.Option.{slice_get_past}
-use Rattle.book.specs.Labels.{Kept}
 use Rattle.book.specs.Slots.{entries_of}
 use Rattle.book.proofs.SlotLemmas.{length-entries}
 use Rattle.book.proofs.table.Table.row.Goals as goal
@@ -8,10 +7,7 @@ use Rattle.book.proofs.table.Table.row.Goals as goal
 pub entry-requires : goal.entry-requires
 entry-requires g c =
     let s = c.self.inside in
-    let l = length-entries s.slots.entries in
-    let same : length (entries_of s.slots.entries) ≡ length c.args.self.now.entries =
-    ap (λ (k : Kept g.row.S.Denot). length k.entries) c.self.view_is in
-    omega arith
+    rw (← c.self.view_is, length-entries s.slots.entries) (omega arith)
 
 pub returns-then-index-len : goal.returns-then-index-len
 returns-then-index-len g c = sym c.entry.ensures
