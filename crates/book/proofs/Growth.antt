@@ -13,7 +13,7 @@ use Rattle.book.specs.Entries.{Entry, Successor, Takes, At, IsNext, with_mark, o
 use Rattle.book.specs.Unknown.{with_successors, unknown}
 use Rattle.book.specs.Entries.{is_expanded}
 use Rattle.book.specs.Law.{IsLawful, IsExpansion}
-use Rattle.book.specs.Layers.{IsExpandedTo, IsLeftTo, NoneTaken, GrowsFrom, IsThrough}
+use Rattle.book.specs.Layers.{IsLeftTo, NoneTaken, GrowsFrom, IsThrough}
 use Rattle.book.proofs.Coverage.{along_origins}
 use Rattle.book.proofs.EntryLemmas.{each-with_mark, with_mark-at}
 use Rattle.book.proofs.Next.{first_passes, none_passes}
@@ -30,29 +30,6 @@ module _ {S : Type 0} (m : StepMachine S) (same : S → S → Bool) (right : S �
       along_origins m (AreOneBy same) right es law (λ i s. m.steps s ≤ i) (omega (arith, machine.from_zero))
       (λ i j t r s earlier leads le. omega (arith, machine.one_more r s t leads)) i e at in
       omega (arith, bounded, slice_get_within es i e at)
-
-  pub all_expanded : (n : ℕ) → position (λ (r : Entry S). not (is_expanded r.mark)) es ≡ None
-      → IsExpandedTo m.steps es n
-  all_expanded n none i e at bounded =
-      expanded_from e.mark (none_passes (λ (r : Entry S). not (is_expanded r.mark)) es none i e at)
-
-  module _ (a : ℕ) (first : position (λ (r : Entry S). not (is_expanded r.mark)) es ≡ Some a) (d : Entry S)
-      (at_a : At es a d) where
-    first_is_left : d.mark ≢ Expanded
-    first_is_left =
-        let f = first_passes (λ (r : Entry S). not (is_expanded r.mark)) es a first in
-        rw (← same_Some f.0 d (sym f.1 ∙ at_a)) (not_expanded_from f.0.mark f.2)
-
-    pub is_left : (n : ℕ) → m.steps d.state ≤ n → IsLeftTo m.steps es n
-    is_left n bounded = (a, d, at_a, first_is_left, bounded)
-
-    pub none_left : (n : ℕ) → n < m.steps d.state → IsExpandedTo m.steps es n
-    none_left n less i e at bounded =
-        elim (cases_lt i a) [
-          | inl l ↦ expanded_from e.mark
-              ((first_passes (λ (r : Entry S). not (is_expanded r.mark)) es a first).3 i e l at)
-          | inr le ↦ absurd (omega (arith, law.ordered a i d e at_a at le))
-        ]
 
   -- where none is taken and some is left, one is next
   pub one_is_next : NoneTaken es → (n : ℕ) → IsLeftTo m.steps es n → ((i : ℕ) (e : Entry S) → IsNext m.steps es i e → ⊥)
@@ -80,19 +57,20 @@ module _ {S : Type 0} (m : StepMachine S) (same : S → S → Bool) (right : S �
 
 -- ---- one is taken, and then its steps are entered
 module _ {S : Type 0} (m : StepMachine S) where
-  -- each entry afterwards was there before, and is expanded still if it was
-  taken_same : (es : List (Entry S)) (i : ℕ) (e : Entry S) → IsNext m.steps es i e → (j : ℕ) (f : Entry S)
-      → At (with_mark es i Taken) j f → (d : Entry S) × At es j d × (f.state ≡ d.state) × (f.finding ≡ d.finding)
+  -- entry j was there before, as f but for its mark, and f is expanded if that was
+  abbrev WasThere : List (Entry S) → ℕ → Entry S → Type 0
+  WasThere es j f = (d : Entry S) × At es j d × (f.state ≡ d.state) × (f.finding ≡ d.finding)
       × (d.mark ≡ Expanded → f.mark ≡ Expanded)
-  taken_same es i e next =
-      each-with_mark (λ j f. (d : Entry S) × At es j d × (f.state ≡ d.state) × (f.finding ≡ d.finding)
-      × (d.mark ≡ Expanded → f.mark ≡ Expanded)) es i Taken
-      (λ d at. (d, at, refl, refl, λ x. cc (at, next.entry, next.is_open, x)))
-      (λ j d at apart. (d, at, refl, refl, λ x. x))
+
+  taken_there : (es : List (Entry S)) (i : ℕ) (e : Entry S) → IsNext m.steps es i e → (j : ℕ) (f : Entry S)
+      → At (with_mark es i Taken) j f → WasThere es j f
+  taken_there es i e next =
+      each-with_mark (WasThere es) es i Taken
+      (λ d at. (d, at, refl, refl, λ x. cc (at, next.entry, next.is_open, x))) (λ j d at apart. (d, at, refl, refl, λ x. x))
 
   pub taken_grows : (es : List (Entry S)) (i : ℕ) (e : Entry S) → IsNext m.steps es i e
       → GrowsFrom m.steps es (with_mark es i Taken)
-  taken_grows es i e next j f at = inl (taken_same es i e next j f at)
+  taken_grows es i e next j f at = inl (taken_there es i e next j f at)
 
   pub taken_alone : (es : List (Entry S)) (i : ℕ) → NoneTaken es → (j : ℕ) (f : Entry S) → At (with_mark es i Taken) j f
       → f.mark ≡ Taken → i ≡ j
@@ -128,10 +106,10 @@ module _ {S : Type 0} (m : StepMachine S) where
   taken_joined a c i e next grows j f at =
       elim (grows j f at) [
         | inl o ↦ (
-            let p = taken_same a i e next j o.0 o.1 in
+            let p = taken_there a i e next j o.0 o.1 in
             inl (p.0, p.1, o.2 ∙ p.2, o.3 ∙ p.3, (λ x. o.4 (p.4 x))))
         | inr o ↦ (
-            let p = taken_same a i e next o.0 o.1 o.2 in
+            let p = taken_there a i e next o.0 o.1 o.2 in
             inr (o.0, p.0, p.1, (λ x. o.3 (p.4 x)), o.4 ∙ ap (λ s. m.steps s + 1) p.2))
       ]
 

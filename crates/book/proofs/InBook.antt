@@ -1,6 +1,6 @@
 -- What follows for the entries of a book. Its machine, which states count as one, and which findings are right are the
 -- book's own.
-use Rattle.std.proofs.Common.{◌≡◌, ℕ, ◌-◌, ◌<◌, ◌≤◌, ◌++◌, ◌∷◌, [], Bool, not, Option, Some, None, List, length}
+use Rattle.std.proofs.Common.{◌≡◌, ℕ, ◌-◌, ◌<◌, ◌≤◌, ◌++◌, ◌∷◌, [], inl, inr, Bool, not, Option, Some, None, List, length}
 use Rattle.std.proofs.Common.{map, refl, reverse, sym, ap, ◌∙◌, arith, position, subst}
 use Rattle.std.specs.List.{range_with_len}
 use Rattle.std.specs.declared.sync.Arc.{Arc}
@@ -13,19 +13,22 @@ use Rattle.book.specs.declared.entry.Origin.{Origin}
 use Rattle.book.specs.Books.{machine_in, right_in, CountsAsOne, IsBook, IsLawfulIn}
 use Rattle.book.specs.Entries.{Entry, Contents, At, IsNext, Takes, TakesLayer, TakesRange, is_expanded, is_open}
 use Rattle.book.specs.Entries.{with_mark, with_marks}
-use Rattle.book.specs.Law.{FindsAlike, StandsForReached}
+use Rattle.book.specs.Law.{FindsAlike, IsLawfulBook, StandsForReached}
 use Rattle.book.specs.Labels.{Kept, same_as}
 use Rattle.book.specs.Slots.{AllStates, AreStatesOf, IsOpenFrom}
 use Rattle.book.specs.Layers.{IsExpandedTo, IsLeftTo}
 use Rattle.book.specs.Ways.{IsWay}
 use Rattle.replay.specs.Schedule.{after, AreOneBy, IsDecided, StepMachine}
 use Rattle.replay.specs.declared.finding.Finding.{Finding}
-use Rattle.std.proofs.lemmas.Option.{same_Some}
+use Rattle.std.proofs.lemmas.Bool.{cases_lt}
 use Rattle.book.proofs.Agreeing.{book_as, finds_as, reached_as}
 use Rattle.book.proofs.Coverage.{stands_along}
-use Rattle.book.proofs.Growth.{all_expanded, steps_bounded, is_left, none_left}
+use Rattle.book.proofs.Closed.{worked_out}
+use Rattle.book.proofs.Growth.{steps_bounded}
 use Rattle.book.proofs.LawfulBooks.{taken_book}
-use Rattle.book.proofs.Next.{next_from, no_next_expanded, no_next_later, no_next_open}
+use Rattle.book.proofs.Left.{first_is_left}
+use Rattle.book.proofs.Marks.{expanded_from}
+use Rattle.book.proofs.Next.{first_passes, next_from, no_next_expanded, no_next_later, no_next_open}
 use Rattle.book.proofs.Ranges.{IsLayerAt, layer_at, range_book, so_of_range, takes_layer, takes_range}
 use Rattle.book.proofs.Ways.{one_way, step_of, way_back, way_ends, way_run}
 
@@ -59,41 +62,36 @@ module _ {Machine Memory Place Form : Type 0} {rules : Machine → Rules Memory 
   bounded_at i e at =
       steps_bounded m same_in right book.machine b.entries book.law.law i b.limit e at book.law.within
 
+  -- the book with other entries is such a book where it is lawful
+  with_entries : (es : List (Entry S)) → IsLawfulBook m (AreOneBy same_in) right (record b { entries = es })
+      → IsBook rules label_of (record b { entries = es })
+  with_entries es law = record {
+    law = law;
+    limits = book.limits;
+    machine = book.machine;
+    merges = book.merges;
+    findings = book.findings;
+    counts = book.counts;
+  }
+
   module _ (now : Contents Machine S) (view : b ≡ now) (i : ℕ)
       (next : (e : Entry S) × IsNext (machine_in rules now).steps now.entries i e) where
     next_here : (e : Entry S) × IsNext m.steps b.entries i e
     next_here = rw view next
 
     -- the book with the next entry taken
-    pub next_taken : IsBook rules label_of
-        (record {
-          machine = b.machine;
-          program = b.program;
-          merge = b.merge;
-          limit = b.limit;
-          entries = with_mark b.entries i Taken;
-          met = b.met;
-        })
+    pub next_taken : IsBook rules label_of (record b { entries = with_mark b.entries i Taken })
     next_taken =
-        record {
-          law = taken_book m same_in right book.machine book.merges b book.law i next_here.0 next_here.1;
-          limits = book.limits;
-          machine = book.machine;
-          merges = book.merges;
-          findings = book.findings;
-          counts = book.counts;
-        }
+        with_entries (with_mark b.entries i Taken)
+        (taken_book m same_in right book.machine book.merges b book.law i next_here.0 next_here.1)
 
-    pub taken_one : (r : S) → (e : Entry S)
-        × At b.entries i e × (e.state ≡ r)
-        → (state : S) → state ≡ r
+    pub taken_one : (r : S) → (e : Entry S) × At b.entries i e × (e.state ≡ r) → (state : S) → state ≡ r
         → {labels : List (List ℕ)} (new : Kept S)
         → new ≡ record { entries = with_mark b.entries i Taken; labels = labels }
         → IsTakenOne rules now i state new.entries
     taken_one r there state is new after =
         let entry = next_here in
-        let own : entry.0.state ≡ state =
-        ap (λ (e : Entry S). e.state) (same_Some entry.0 there.0 (sym entry.1.entry ∙ there.1)) ∙ there.2 ∙ sym is in
+        let own : entry.0.state ≡ state = cc (entry.1.entry, there.1, there.2, is) in
         rw (← view) (record {
           takes = record { entry = entry.0; next = entry.1; state = own; after = rw after refl };
           fits = rw (← own) (book.law.law.fit i entry.0 entry.1.entry);
@@ -111,11 +109,9 @@ module _ {Machine Memory Place Form : Type 0} {rules : Machine → Rules Memory 
   states_bounded range states =
       so_of_range m same_in right (λ state. state.steps < b.limit) b.entries range bounded_at states
 
-  -- what is so of each state of the entries is so of one that is lent
-  module _ (i : ℕ) (state : S)
-      (at : (e : Entry S) × At b.entries i e × (e.state ≡ state)) where
-    pub state_bounded : state.steps < b.limit
-    state_bounded = rw (← at.2) (bounded_at i at.0 at.1)
+  pub state_bounded : (i : ℕ) (state : S) → (e : Entry S) × At b.entries i e × (e.state ≡ state)
+      → state.steps < b.limit
+  state_bounded i state at = rw (← at.2) (bounded_at i at.0 at.1)
 
   -- the layer of the next entry ends before the first entry of more steps
   module _ {now : Contents Machine S} (view : b ≡ now) {start end k : ℕ}
@@ -134,23 +130,10 @@ module _ {Machine Memory Place Form : Type 0} {rules : Machine → Rules Memory 
   module _ {start end : ℕ} (layer : IsLayerAt m.steps b.entries start end) where
     -- the book with it taken
     pub layer_taken : IsBook rules label_of
-        (record {
-          machine = b.machine;
-          program = b.program;
-          merge = b.merge;
-          limit = b.limit;
-          entries = with_marks b.entries (range_with_len start (end - start)) Taken;
-          met = b.met;
-        })
+        (record b { entries = with_marks b.entries (range_with_len start (end - start)) Taken })
     layer_taken =
-        record {
-          law = range_book m same_in right book.machine book.merges (end - start) start b book.law layer.range;
-          limits = book.limits;
-          machine = book.machine;
-          merges = book.merges;
-          findings = book.findings;
-          counts = book.counts;
-        }
+        with_entries (with_marks b.entries (range_with_len start (end - start)) Taken)
+        (range_book m same_in right book.machine book.merges (end - start) start b book.law layer.range)
 
     pub layer_given : {A : Type 0} (range : List (ℕ × Arc S A))
         → map (λ (p : ℕ × Arc S A). p.0) range ≡ range_with_len start (end - start)
@@ -159,17 +142,15 @@ module _ {Machine Memory Place Form : Type 0} {rules : Machine → Rules Memory 
         → new ≡ record { entries = with_marks b.entries (range_with_len start (end - start)) Taken; labels = labels }
         → TakesLayer m.steps b.entries new.entries range
     layer_given range numbers states new after =
-        let some : start < end = layer.some in
         takes_layer m.steps b.entries new.entries start (end - start) range layer.range
-        (omega arith) layer.entry layer.there layer.later numbers states (rw after refl)
+        (omega (arith, layer.some)) layer.entry layer.there layer.later numbers states (rw after refl)
 
     pub range_given : {labels : List (List ℕ)} (new : Kept S)
         → new ≡ record { entries = with_marks b.entries (range_with_len start (end - start)) Taken; labels = labels }
         → TakesRange m.steps b.entries new.entries start end
     range_given new after =
-        let some : start < end = layer.some in
-        takes_range m.steps b.entries new.entries start end (omega arith) layer.range
-        (omega arith) layer.entry layer.there layer.later (rw after refl)
+        takes_range m.steps b.entries new.entries start end (omega (arith, layer.some)) layer.range
+        (omega (arith, layer.some)) layer.entry layer.there layer.later (rw after refl)
 
   -- none is next where all are expanded, or none is open
   pub none_of_expanded : position (λ (e : Entry S). not (is_expanded e.mark)) b.entries
@@ -202,22 +183,25 @@ module _ {Machine Memory Place Form : Type 0} {rules : Machine → Rules Memory 
         (λ (q : at_c.0.state.steps ≡ at_a.0.state.steps). other (sym at_c.2 ∙ q ∙ at_a.2))
 
   -- where no entry is left, all of at most n steps are expanded
-  pub all_expanded_to : (n : ℕ) → position (λ (e : Entry S). not (is_expanded e.mark))
-      b.entries ≡ None → IsExpandedTo m.steps b.entries n
-  all_expanded_to = all_expanded m same_in right book.machine b.entries book.law.law
+  pub all_expanded_to : (n : ℕ) → position (λ (e : Entry S). not (is_expanded e.mark)) b.entries ≡ None
+      → IsExpandedTo m.steps b.entries n
+  all_expanded_to n none i e at bounded = worked_out b.entries none i e at
 
   module _ (a k n : ℕ)
       (left : position (λ (e : Entry S). not (is_expanded e.mark)) b.entries ≡ Some a)
       (at_a : (e : Entry S) × At b.entries a e × (e.state.steps ≡ k)) where
     pub left_to : k ≤ n → IsLeftTo m.steps b.entries n
     left_to le =
-        let steps : at_a.0.state.steps ≡ k = at_a.2 in
-        is_left m same_in right book.machine b.entries book.law.law a left at_a.0 at_a.1 n (omega arith)
+        let f = first_is_left b.entries a left in
+        (a, at_a.0, at_a.1, (λ x. f.2 (cc (f.1, at_a.1, x))), omega (arith, at_a.2))
 
     pub none_left_to : n < k → IsExpandedTo m.steps b.entries n
-    none_left_to less =
-        let steps : at_a.0.state.steps ≡ k = at_a.2 in
-        none_left m same_in right book.machine b.entries book.law.law a left at_a.0 at_a.1 n (omega arith)
+    none_left_to less i e at bounded =
+        elim (cases_lt i a) [
+          | inl l ↦ expanded_from e.mark
+              ((first_passes (λ (e : Entry S). not (is_expanded e.mark)) b.entries a left).3 i e l at)
+          | inr le ↦ absurd (omega (arith, at_a.2, book.law.law.ordered a i at_a.0 e at_a.1 at le))
+        ]
 
   -- each state that a stood-for one reaches is stood for
   pub stands_for_reached : StandsForReached m (AreOneBy same_in) b.entries
@@ -254,36 +238,21 @@ module _ {Machine Memory Place Form : Type 0} {rules : Machine → Rules Memory 
           → (origin.parent < length now.entries)
           × IsWay now.entries origin.parent (reverse (c ++ origin.thread ∷ [])) id
       one_back origin is =
-          subst (λ (q : Contents Machine S). IsWay q.entries i (reverse c) id
-          → (origin.parent < length q.entries)
-          × IsWay q.entries origin.parent (reverse (c ++ origin.thread ∷ [])) id) view
+          rw (← view)
           (way_back m same_in right b.entries book.law.law i id c entry.0 origin entry.1 (entry.2 ∙ is))
 
       pub at_start : o ≡ None → IsWay now.entries i c id → IsWay now.entries 0 c id
       at_start is =
-          subst (λ (q : Contents Machine S). IsWay q.entries i c id
-          → IsWay q.entries 0 c id) view (way_ends m same_in right b.entries book.law.law i id c entry.0 entry.1
-          (entry.2 ∙ is))
+          rw (← view) (way_ends m same_in right b.entries book.law.law i id c entry.0 entry.1 (entry.2 ∙ is))
 
     pub way_leads_to : (c : List ℕ) (id : ℕ) → id < length now.entries → IsWay now.entries 0 c id
         → (e : Entry S) × At now.entries id e
         × (after (machine_in rules now) c ≡ Some e.state) × (length c ≡ e.state.steps)
     way_leads_to c id =
-        subst (λ (q : Contents Machine S). id < length q.entries
-        → IsWay q.entries 0 c id
-        → (e : Entry S) × At q.entries id e
-        × (after (machine_in rules q) c ≡ Some e.state) × (length c ≡ e.state.steps)) view here
-      where
-        here : id < length b.entries → IsWay b.entries 0 c id
-            → (e : Entry S) × At b.entries id e
-            × (after m c ≡ Some e.state) × (length c ≡ e.state.steps)
-        here within way =
-            let e = get_at b.entries id within in
-            let leads =
-            way_run m same_in right b.entries book.law.law book.machine c id e.0 e.1 way in
-            (e.0, e.1, leads.0, leads.1)
+        rw (← view) (λ within way.
+        let e = get_at b.entries id within in
+        let leads = way_run m same_in right b.entries book.law.law book.machine c id e.0 e.1 way in
+        (e.0, e.1, leads.0, leads.1))
 
     pub no_other_way : (c d : List ℕ) (id : ℕ) → IsWay now.entries 0 c id → IsWay now.entries 0 d id → d ≡ c
-    no_other_way c d id =
-        subst (λ (q : Contents Machine S). IsWay q.entries 0 c id
-        → IsWay q.entries 0 d id → d ≡ c) view (one_way m same_in right b.entries book.law.law c d id)
+    no_other_way c d id = rw (← view) (one_way m same_in right b.entries book.law.law c d id)

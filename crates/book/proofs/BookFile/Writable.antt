@@ -29,7 +29,7 @@ use Rattle.book.specs.Closed.{AreSound}
 use Rattle.book.specs.Entries.{Entry, At}
 use Rattle.replay.specs.Findings.{machine_of, IsFindingOf, is_sound}
 use Rattle.book.specs.Law.{IsLawful}
-use Rattle.replay.specs.Schedule.{AreOneBy, IsMachine}
+use Rattle.replay.specs.Schedule.{IsMachine}
 use Rattle.book.specs.BookFile.Writing.{FindsOrder, IsLineOf, AreLinesOf}
 use Rattle.book.specs.BookFile.Written.{AreWritable, IsFileOf}
 use Rattle.book.proofs.Next.{first_passes, none_passes}
@@ -52,19 +52,16 @@ module _ {Machine Memory Place Form : Type 0} (rules : Rules Memory Place) (prog
   -- a sound finding has an order with such names
   found_names : (s : State Machine Memory Place Form) (f : Finding) → IsFindingOf rules program s f → is_sound f ≡ true
       → (order : List OpId) × FindsOrder f order × All IsName order
-  found_names s found.Astray right sound = absurd (true≢false (sym sound))
-  found_names s found.Order right sound = absurd (true≢false (sym sound))
-  found_names s found.History right sound = absurd (true≢false (sym sound))
   found_names s (found.Sound linearization) right sound =
       (linearization, refl, given_names program limits (history_of s) _ linearization right.2.replies)
+  found_names s _ right sound = absurd (true≢false (sym sound))
 
-  pub writable : (same : State Machine Memory Place Form → State Machine Memory Place Form → _)
+  pub writable : (Same : State Machine Memory Place Form → State Machine Memory Place Form → Type 0)
       → IsMachine (machine_of {Machine = Machine} {Form = Form} rules program)
       → (es : List (Entry (State Machine Memory Place Form)))
-      → IsLawful (machine_of rules program) (AreOneBy same) (IsFindingOf rules program) es → length es ≤ 2000000
-      → AreSound es
+      → IsLawful (machine_of rules program) Same (IsFindingOf rules program) es → length es ≤ 2000000 → AreSound es
       → AreWritable es
-  writable same machine es law bounded sound i e at some =
+  writable Same machine es law bounded sound i e at some =
       let from = law.origins i e at some in
       let named = found_names e.state e.finding (law.findings i e at) (sound i e at) in (
         record { parent = from.origin.parent; thread = from.origin.thread; order = named.0 },

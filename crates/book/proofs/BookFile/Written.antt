@@ -10,7 +10,7 @@ use Rattle.sched_program.specs.declared.operation.OpId.{OpId}
 use Rattle.tree_machine.specs.Rules.{Rules}
 use Rattle.tree_machine.specs.Alike.{AreStatesAlike}
 use Rattle.tree_machine.specs.History.{all_named, history_of}
-use Rattle.tree_machine.specs.Step.{start, Fits}
+use Rattle.tree_machine.specs.Step.{start}
 use Rattle.tree_machine.specs.declared.state.State.{State}
 use Rattle.lin.specs.Linearization.{IsLinearization}
 use Rattle.tree_machine.proofs.Lists.{get-append_left, get-append_right, get_at}
@@ -18,13 +18,11 @@ use Rattle.replay.specs.declared.finding.Finding.{Finding}
 use Rattle.replay.specs.declared.finding.Finding.TheVariants as found
 use Rattle.book.specs.Entries.{Entry, Contents, At, states}
 use Rattle.book.specs.Law.{IsLawful}
-use Rattle.replay.specs.Findings.{machine_of, IsFindingOf, is_sound, IsSound}
-use Rattle.replay.specs.Schedule.{AreOneBy, IsMachine, Merges}
+use Rattle.replay.specs.Findings.{machine_of, IsFindingOf, is_sound}
 use Rattle.book.proofs.Closed.{worked_out_closed}
 use Rattle.replay.specs.Closed.{AreClosed}
 use Rattle.book.specs.Closed.{IsWorkedOut, IsClosed, AreSound}
 use Rattle.book.specs.Books.{CountsAsOne, machine_in, right_in, IsLawfulIn}
-use Rattle.book.proofs.Agreeing.{Agree, book_back}
 use Rattle.book.proofs.Unknown.{states-at}
 use Rattle.replay.specs.declared.file.line.BookLine.{BookLine}
 use Rattle.replay.specs.BookFile.Replays.{IsWell, IsShown, Tells, Continues}
@@ -58,28 +56,17 @@ module _ {Machine Memory Place Form : Type 0} (rules : Rules Memory Place) (prog
   -- the linearization that was found of a state shows it
   found_shown : (s : State Machine Memory Place Form) (f : Finding) (order : List OpId) → IsFindingOf rules program s f
       → FindsOrder f order → IsShown rules program s order
-  found_shown s found.Astray order right finds = absurd finds
-  found_shown s found.Order order right finds = absurd finds
-  found_shown s found.History order right finds = absurd finds
-  found_shown s (found.Sound linearization) order right finds =
-      ((right.0, right.1), rw finds at right.2)
+  found_shown s (found.Sound linearization) order right finds = ((right.0, right.1), rw finds at right.2)
+  found_shown s _ order right finds = absurd finds
 
   sound_well : (s : State Machine Memory Place Form) (f : Finding) → IsFindingOf rules program s f → is_sound f ≡ true
       → IsWell rules program s
-  sound_well s found.Astray right sound = absurd (true≢false (sym sound))
-  sound_well s found.Order right sound = absurd (true≢false (sym sound))
-  sound_well s found.History right sound = absurd (true≢false (sym sound))
   sound_well s (found.Sound order) right sound = (right.0, right.1)
+  sound_well s _ right sound = absurd (true≢false (sym sound))
 
-  module _ (same : State Machine Memory Place Form → State Machine Memory Place Form → Bool)
-      (machine : IsMachine (machine_of {Machine = Machine} {Form = Form} rules program))
-      (merges : Merges (machine_of {Machine = Machine} {Form = Form} rules program) same)
-      (sound_alike : (r s : State Machine Memory Place Form) → Fits rules program r → Fits rules program s
-      → same r s ≡ true → IsSound (IsFindingOf rules program) r → IsSound (IsFindingOf rules program) s)
-      (alike : (r s : State Machine Memory Place Form) → Fits rules program r → Fits rules program s → same r s ≡ true
-      → AreStatesAlike rules r s)
+  module _ (Same : State Machine Memory Place Form → State Machine Memory Place Form → Type 0)
       (es : List (Entry (State Machine Memory Place Form)))
-      (law : IsLawful (machine_of rules program) (AreOneBy same) (IsFindingOf rules program) es) where
+      (law : IsLawful (machine_of rules program) Same (IsFindingOf rules program) es) where
     -- the line of the entry after some describes its state
     line_tells : (front rest : List (Entry (State Machine Memory Place Form)))
         (e : Entry (State Machine Memory Place Form)) (line : BookLine) → es ≡ front ++ e ∷ rest → 1 ≤ length front
@@ -119,63 +106,36 @@ module _ {Machine Memory Place Form : Type 0} (rules : Rules Memory Place) (prog
               (omega arith) z.1),
         )
 
-    -- no step leads out of the states of a book with no entry left
-    states_closed : IsWorkedOut es → AreClosed (machine_of rules program) (AreStatesAlike rules) (states es)
-    states_closed out =
-        let closed =
-        worked_out_closed (machine_of rules program) same (IsFindingOf rules program) machine merges sound_alike es
-        law out in
-        record {
-          fit = closed.fit;
-          start = (let w = closed.start in
-              (w.0, w.1, w.2, alike w.1 (start rules program) (closed.fit w.0 w.1 w.2) machine.start_fits w.3));
-          steps = (λ i t s next at leads.
-              let w = closed.steps i t s next at leads in (
-                w.0,
-                w.1,
-                w.2,
-                alike w.1 next (closed.fit w.0 w.1 w.2)
-                    (machine.step_fits s next t (closed.fit i s at) leads) w.3,
-              ));
-        }
-
     -- the lines of a closed and sound book pass
-    lines_pass : (lines : List BookLine) → AreLinesOf es lines → IsWorkedOut es → AreSound es
+    lines_pass : (lines : List BookLine) (xs : List (Entry (State Machine Memory Place Form))) → es ≡ xs
+        → AreLinesOf xs lines → AreSound es → AreClosed (machine_of rules program) (AreStatesAlike rules) (states es)
         → Pass Machine Form rules program lines
-    lines_pass lines of_book out sound = go es refl of_book
-      where
-        go : (xs : List (Entry (State Machine Memory Place Form))) → es ≡ xs → AreLinesOf xs lines
-            → Pass Machine Form rules program lines
-        go [] whole of_xs = absurd (let q : None ≡ Some law.start.0 = rw whole at law.start.1 in cc)
-        go (e ∷ rest) whole of_xs =
-            let at : At es 0 e = rw whole refl in
-            let first : e ≡ law.start.0 = cc (at, law.start.1) in
-            let starts : e.state ≡ start rules program = rw first law.start.2 in (
-              states es,
-              (
-                (
-                  rw starts at (sound_well e.state e.finding (law.findings 0 e at) (sound 0 e at)),
-                  start_explained Machine Form rules program,
-                ),
-                rw starts at (written_continues (e ∷ []) rest lines whole (omega arith) of_xs),
-              ),
-              states_closed out,
-            )
+    lines_pass lines [] whole of_xs sound closed =
+        absurd (let q : None ≡ Some law.start.0 = rw whole at law.start.1 in cc)
+    lines_pass lines (e ∷ rest) whole of_xs sound closed =
+        let at : At es 0 e = rw whole refl in
+        let first : e ≡ law.start.0 = cc (at, law.start.1) in
+        let starts : e.state ≡ start rules program = rw first law.start.2 in (
+          states es,
+          (
+            (
+              rw starts at (sound_well e.state e.finding (law.findings 0 e at) (sound 0 e at)),
+              start_explained Machine Form rules program,
+            ),
+            rw starts at (written_continues (e ∷ []) rest lines whole (omega arith) of_xs),
+          ),
+          closed,
+        )
 
 -- the lines of a closed and sound book of a machine and a program pass
-pub written_pass : {Machine Memory Place Form : Type 0}
-    {same : State Machine Memory Place Form → State Machine Memory Place Form → Bool}
-    (rules : Machine → Rules Memory Place) (book : Contents Machine (State Machine Memory Place Form))
-    → IsLawfulIn rules book → IsMachine (machine_in rules book) → Merges (machine_in rules book) same
-    → Agree (machine_in rules book) (AreOneBy same) (CountsAsOne (rules book.machine) book.merge)
-    → ((r s : State Machine Memory Place Form) → Fits (rules book.machine) book.program r
-    → Fits (rules book.machine) book.program s → same r s ≡ true
-    → IsSound (right_in rules book) r → IsSound (right_in rules book) s)
+pub written_pass : {Machine Memory Place Form : Type 0} (rules : Machine → Rules Memory Place)
+    (book : Contents Machine (State Machine Memory Place Form)) → IsLawfulIn rules book
+    → CountsAsOne (rules book.machine) book.merge (machine_in rules book).start (machine_in rules book).start
     → IsClosed book → AreSound book.entries → (lines : List BookLine) → AreLinesOf book.entries lines
     → Pass Machine Form (rules book.machine) book.program lines
-written_pass {Machine} {Memory} {Place} {Form} {same} rules book law machine merges counts sound_alike closed sound
-    lines of_book =
-    let tested = book_back (machine_in rules book) machine (AreOneBy same) _ counts (right_in rules book) book law in
-    lines_pass (rules book.machine) book.program same machine merges sound_alike
-    (λ r s r_fits s_fits one. rw closed.0 at ((counts r s r_fits s_fits).0 one))
-    book.entries tested.law lines of_book closed.1 sound
+written_pass rules book law itself (names, out) sound lines of_book =
+    let m = machine_in rules book in
+    let Same = CountsAsOne (rules book.machine) book.merge in
+    let closed = worked_out_closed m Same (right_in rules book) book.entries law.law itself out in
+    lines_pass (rules book.machine) book.program Same book.entries law.law lines book.entries refl of_book sound
+    (rw names at closed)
