@@ -1,8 +1,7 @@
 -- An expansion is entered.
 use Rattle.std.proofs.Common.{◌≡◌, ℕ, zero, suc, ◌+◌, ◌-◌, ◌^◌, ◌<◌, ◌≤◌, Bool, List, [], ◌∷◌, ◌++◌, length, map}
-use Rattle.std.proofs.Common.{refl, sym, ap, ◌∙◌, arith}
-use Rattle.std.proofs.Common.{length-append}
-use Rattle.std.proofs.lemmas.Bool.{cond_both}
+use Rattle.std.proofs.Common.{inl, inr, refl, sym, ap, ◌∙◌, arith, length-append}
+use Rattle.std.proofs.lemmas.Bool.{cases_Bool}
 use Rattle.std.proofs.Math.ListN.{length-map}
 use Rattle.std.proofs.lemmas.Option.{same_Some, slice_get_within}
 use Rattle.sched_program.specs.Program.{Program}
@@ -29,11 +28,11 @@ own_from book i e x p s r at state same_machine same_program same_state = record
 length-unknown : {S : Type 0} (same : S → S → Bool) (known : List S) (xs : List (Successor S))
     → length (unknown same known xs) ≤ length xs
 length-unknown same known [] = omega arith
-length-unknown {S} same known (x ∷ xs) =
-    cond_both (knows same known x.state) (unknown same known xs) (x ∷ unknown same (known ++ x.state ∷ []) xs)
-    (λ (ys : List (Successor S)). length ys ≤ suc (length xs))
-    (λ _. omega (arith, length-unknown same known xs))
-    (λ _. omega (arith, length-unknown same (known ++ x.state ∷ []) xs))
+length-unknown same known (x ∷ xs) =
+    elim (cases_Bool (knows same known x.state)) [
+      | inl is ↦ rw is (omega (arith, length-unknown same known xs))
+      | inr new ↦ rw new (omega (arith, length-unknown same (known ++ x.state ∷ []) xs))
+    ]
 
 with_mark-append : {S : Type 0} (es fs : List (Entry S)) (i : ℕ) (k : Mark) → i < length es
     → with_mark (es ++ fs) i k ≡ with_mark es i k ++ fs
@@ -78,17 +77,9 @@ module _ {X S : Type 0} (m : StepMachine S) (same : S → S → Bool) (right : S
       (slice_get_within b.entries i e at)
 
   pub lawful_entered : (new : List (Entry S)) (entered met : ℕ) → new ≡ with_mark appended i Expanded
-      → entered ≡ length (unknown same (states b.entries) xs)
-      → entered + met ≡ length xs → length appended ≤ b.limit
-      → IsLawfulBook m (AreOneBy same) right
-      (record {
-        machine = b.machine;
-        program = b.program;
-        merge = b.merge;
-        limit = b.limit;
-        entries = new;
-        met = b.met + met;
-      })
+      → entered ≡ length (unknown same (states b.entries) xs) → entered + met ≡ length xs
+      → length appended ≤ b.limit
+      → IsLawfulBook m (AreOneBy same) right (record b { entries = new; met = b.met + met })
   lawful_entered new entered met marked count each room =
       rw (entered_entries new marked)
       (entered_book m same right machine merges b book i e at taken xs expansion entered met (sym count) each
