@@ -17,9 +17,6 @@ use Rattle.replay.specs.Laws.Schedules.{run_push}
 use Rattle.book.proofs.Unknown.{at-states, states-at}
 use Rattle.book.proofs.Coverage.{along_origins, stands_after}
 
-pub gt-leb : (m n : ℕ) → n < m → leb m n ≡ false
-gt-leb m n less = lt-leb m n less
-
 slice_get-take : {X : Type 0} (k : ℕ) (xs : List X) (i : ℕ) → i < k → slice_get (take k xs) i ≡ slice_get xs i
 slice_get-take zero xs i less = absurd (omega arith)
 slice_get-take (suc k) [] i less = refl

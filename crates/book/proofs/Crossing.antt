@@ -59,9 +59,6 @@ module _ (M Mem Loc Form : RattleType) where
     state_send : IsSend (State.the_row M Mem Loc Form)
     state_send = search (sendable, crosses) depth 30
 
-    undo_send : IsSend (Undo.the_field M Mem Loc Form).row
-    undo_send = search (sendable, crosses) depth 30
-
     state_sync : IsSync (State.the_row M Mem Loc Form)
     state_sync = search (sendable, crosses) depth 30
 
@@ -85,7 +82,7 @@ module _ (M Mem Loc Form : RattleType) where
       decoded_send = search (state_send, sendable, crosses) depth 30
 
       pub scratch_send : IsSend (Scratch.the_row M Mem Loc Form e g mp ap ah lp lh fp fh)
-      scratch_send = scratch_from (undo_send m mem loc form m' mem' loc' form') decoded_send
+      scratch_send = scratch_from (search (sendable, crosses) depth 30) decoded_send
 
       pub book_send : IsSend (Book.the_row M Mem Loc Form e g mp ap ah lp lh fp fh)
       book_send = search (table_send, program_send, state_send, state_sync, sendable, crosses) depth 30

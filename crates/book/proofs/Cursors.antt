@@ -12,7 +12,7 @@ use Rattle.book.specs.declared.entry.Mark.TheVariants.{Open, Taken, Expanded}
 use Rattle.book.specs.Entries.{Entry, Successor, At, IsTaken, is_open, is_expanded, opened, with_mark}
 use Rattle.replay.specs.Findings.{is_sound}
 use Rattle.book.specs.Slots.{IsFirstLeft, AreCursors}
-use Rattle.book.proofs.EntryLemmas.{each-with_mark, length-with_mark}
+use Rattle.book.proofs.EntryLemmas.{each-with_mark, get-front, length-with_mark}
 use Rattle.book.proofs.Next.{first_passes, none_passes}
 use Rattle.book.proofs.Marks.{expanded_fails, left_passes, open_fails, open_passes}
 
@@ -84,19 +84,13 @@ module _ {S : Type 0} (es : List (Entry S)) where
       let first = first_passes is_unsound es a h in
       let within : a < length es = slice_get_within es a first.0 first.1 in
       first_is is_unsound (es ++ fs) a first.0 (get-append_left es fs a first.0 first.1) first.2
-      (λ j f there less. elim (get-append_cases es fs j f there) [
-        | inl l ↦ first.3 j f less l
-        | inr r ↦ absurd (omega (arith, r.1))
-      ])
+      (λ j f there less. first.3 j f less (get-front es fs j f there (omega arith)))
 
   -- where there is no fault, all are sound
   pub all_sound : (fs : List (Entry S)) → position (λ (e : Entry S). not (is_sound e.finding)) es ≡ None
       → (i : ℕ) (e : Entry S) → At (es ++ fs) i e → i < length es → is_sound e.finding ≡ true
   all_sound fs h i e at less =
-      elim (get-append_cases es fs i e at) [
-        | inl l ↦ not-false (is_sound e.finding) (none_passes is_unsound es h i e l)
-        | inr r ↦ absurd (omega (arith, r.1))
-      ]
+      not-false (is_sound e.finding) (none_passes is_unsound es h i e (get-front es fs i e at less))
 
   module _ (next_open first_left : ℕ) (fault : Option ℕ) (cursors : AreCursors es next_open first_left fault) where
     open_is : position (λ (e : Entry S). is_open e.mark) es ≡ cond (ltb next_open (length es)) (Some next_open) None
@@ -172,20 +166,16 @@ module _ {S : Type 0} (es : List (Entry S)) where
         → fault' ≡ position (λ (e : Entry S). not (is_sound e.finding)) (es ++ map (opened i) xs)
         → AreCursors (es ++ map (opened i) xs) next_open first_left fault'
     cursors_appended i xs fault' is_fault =
+        let old = get-front es (map (opened i) xs) in
         let place = get-append_cases es (map (opened i) xs) in
         let longer = length-append es (map (opened i) xs) in
         record {
-          below = (λ j d at less. elim (place j d at) [
-            | inl o ↦ cursors.below j d o less
-            | inr r ↦ absurd (omega (arith, cursors.within, r.1))
-          ]);
+          below = (λ j d at less. cursors.below j d (old j d at (omega (arith, cursors.within))) less);
           above = (λ j d at le. elim (place j d at) [ inl o ↦ cursors.above j d o le | inr r ↦ opened_open r.0 d r.2 ]);
           within = omega (arith, cursors.within);
           left = record {
-            expanded = (λ j d at less. elim (place j d at) [
-              | inl o ↦ cursors.left.expanded j d o less
-              | inr r ↦ absurd (omega (arith, cursors.left.within, r.1))
-            ]);
+            expanded =
+                (λ j d at less. cursors.left.expanded j d (old j d at (omega (arith, cursors.left.within))) less);
             stops = (λ d at. elim (place first_left d at) [
               | inl o ↦ cursors.left.stops d o
               | inr r ↦ (λ q. cc (opened_open r.0 d r.2, q))

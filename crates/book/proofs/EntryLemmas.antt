@@ -1,12 +1,18 @@
 -- An entry by its number, in lists of entries that are made of others.
-use Rattle.std.proofs.Common.{rules, ◌≡◌, ◌≢◌, ℕ, zero, suc, ◌+◌, ◌⊎◌, inl, inr, List, [], ◌∷◌, length, refl, sym, ap}
-use Rattle.std.proofs.Common.{◌∙◌, arith, count_by, cond, subst}
+use Rattle.std.proofs.Common.{rules, ◌≡◌, ◌≢◌, ℕ, zero, suc, ◌+◌, ◌⊎◌, inl, inr, List, [], ◌∷◌, ◌++◌, length, refl, sym, ap}
+use Rattle.std.proofs.Common.{◌∙◌, ◌<◌, Some, slice_get, arith, count_by, cond, subst}
 use Rattle.std.proofs.lemmas.List.Sums.{sum_by-cons}
 use Rattle.std.proofs.lemmas.Option.{same_Some, slice_get_within}
-use Rattle.tree_machine.proofs.Lists.{get_at}
+use Rattle.tree_machine.proofs.Lists.{get_at, get-append_cases}
 use Rattle.book.specs.declared.entry.Mark.{Mark}
 use Rattle.book.specs.declared.entry.Mark.TheVariants.{Open, Taken, Expanded}
 use Rattle.book.specs.Entries.{Entry, At, is_open, is_taken, is_expanded, with_mark}
+
+-- what stands in two lists in a row at a number of the first stands in the first
+pub get-front : {X : Type 0} (xs ys : List X) (i : ℕ) (x : X) → slice_get (xs ++ ys) i ≡ Some x → i < length xs
+    → slice_get xs i ≡ Some x
+get-front xs ys i x at less =
+    elim (get-append_cases xs ys i x at) [ inl l ↦ l | inr r ↦ absurd (omega (arith, r.1)) ]
 
 -- one entry and another that differ in the mark alone
 pub record SameButMark {S : Type 0} (e f : Entry S) : Type 0 where

@@ -11,14 +11,16 @@ use Rattle.book.specs.declared.entry.Mark.TheVariants.{Taken, Expanded}
 use Rattle.replay.specs.Schedule.{AreOneBy, StepMachine, IsMachine, Merges}
 use Rattle.book.specs.Entries.{Entry, Successor, Takes, At, IsNext, with_mark, opened, states}
 use Rattle.book.specs.Unknown.{with_successors, unknown}
-use Rattle.book.specs.Entries.{is_expanded}
+use Rattle.book.specs.Entries.{is_expanded, is_open}
 use Rattle.book.specs.Law.{IsLawful, IsExpansion}
 use Rattle.book.specs.Layers.{IsLeftTo, NoneTaken, GrowsFrom, IsThrough}
+use Rattle.book.proofs.Closed.{worked_out}
 use Rattle.book.proofs.Coverage.{along_origins}
+use Rattle.book.proofs.Cursors.{first_is}
 use Rattle.book.proofs.EntryLemmas.{each-with_mark, with_mark-at}
-use Rattle.book.proofs.Next.{first_passes, none_passes}
+use Rattle.book.proofs.Next.{first_passes, next_from}
 use Rattle.book.proofs.Kept.{entered_grows, entered_rests}
-use Rattle.book.proofs.Marks.{expanded_from, not_expanded_from, open_between}
+use Rattle.book.proofs.Marks.{expanded_from, not_expanded_from, open_between, open_fails, open_passes}
 
 -- ---- which entries are left
 module _ {S : Type 0} (m : StepMachine S) (same : S → S → Bool) (right : S → Finding → Type 0) (machine : IsMachine m)
@@ -37,23 +39,14 @@ module _ {S : Type 0} (m : StepMachine S) (same : S → S → Bool) (right : S �
   one_is_next none_taken n left no_next = go (position (λ (r : Entry S). not (is_expanded r.mark)) es) refl
     where
       go : (o : Option ℕ) → position (λ (r : Entry S). not (is_expanded r.mark)) es ≡ o → ⊥
-      go None h =
-          left.3 (expanded_from left.1.mark
-          (none_passes (λ (r : Entry S). not (is_expanded r.mark)) es h left.0 left.1 left.2))
+      go None h = left.3 (worked_out es h left.0 left.1 left.2)
       go (Some a) h =
           let f = first_passes (λ (r : Entry S). not (is_expanded r.mark)) es a h in
-          no_next a f.0 (record {
-            entry = f.1;
-            is_open = open_between f.0.mark (not_expanded_from f.0.mark f.2) (none_taken a f.0 f.1);
-            fewest = (λ j g at x. elim (cases_lt j a) [
-              | inl l ↦ absurd (x (expanded_from g.mark (f.3 j g l at)))
-              | inr le ↦ law.ordered a j f.0 g f.1 at le
-            ]);
-            lowest = (λ j g at o _. elim (cases_lt j a) [
-              | inl l ↦ absurd (let x = expanded_from g.mark (f.3 j g l at) in cc)
-              | inr le ↦ le
-            ]);
-          })
+          let opens = open_between f.0.mark (not_expanded_from f.0.mark f.2) (none_taken a f.0 f.1) in
+          let first_open =
+          first_is (λ (r : Entry S). is_open r.mark) es a f.0 f.1 (open_passes f.0.mark opens)
+          (λ j g at less. open_fails g.mark (λ o. cc (expanded_from g.mark (f.3 j g less at)))) in
+          no_next a f.0 (next_from m same right es law a a h first_open f.0 f.0 f.1 f.1 refl)
 
 -- ---- one is taken, and then its steps are entered
 module _ {S : Type 0} (m : StepMachine S) where

@@ -26,8 +26,7 @@ use Rattle.book.proofs.Coverage.{stands_along}
 use Rattle.book.proofs.Closed.{worked_out}
 use Rattle.book.proofs.Growth.{steps_bounded}
 use Rattle.book.proofs.LawfulBooks.{taken_book}
-use Rattle.book.proofs.Left.{first_is_left}
-use Rattle.book.proofs.Marks.{expanded_from}
+use Rattle.book.proofs.Marks.{expanded_from, not_expanded_from}
 use Rattle.book.proofs.Next.{first_passes, next_from, no_next_expanded, no_next_later, no_next_open}
 use Rattle.book.proofs.Ranges.{IsLayerAt, layer_at, range_book, so_of_range, takes_layer, takes_range}
 use Rattle.book.proofs.Ways.{one_way, step_of, way_back, way_ends, way_run}
@@ -192,8 +191,8 @@ module _ {Machine Memory Place Form : Type 0} {rules : Machine → Rules Memory 
       (at_a : (e : Entry S) × At b.entries a e × (e.state.steps ≡ k)) where
     pub left_to : k ≤ n → IsLeftTo m.steps b.entries n
     left_to le =
-        let f = first_is_left b.entries a left in
-        (a, at_a.0, at_a.1, (λ x. f.2 (cc (f.1, at_a.1, x))), omega (arith, at_a.2))
+        let f = first_passes (λ (e : Entry S). not (is_expanded e.mark)) b.entries a left in
+        (a, at_a.0, at_a.1, (λ x. not_expanded_from f.0.mark f.2 (cc (f.1, at_a.1, x))), omega (arith, at_a.2))
 
     pub none_left_to : n < k → IsExpandedTo m.steps b.entries n
     none_left_to less i e at bounded =

@@ -13,7 +13,8 @@ use Rattle.tree_machine.specs.History.{all_named, history_of}
 use Rattle.tree_machine.specs.Step.{start}
 use Rattle.tree_machine.specs.declared.state.State.{State}
 use Rattle.lin.specs.Linearization.{IsLinearization}
-use Rattle.tree_machine.proofs.Lists.{get-append_left, get-append_right, get_at}
+use Rattle.tree_machine.proofs.Lists.{get-append_right}
+use Rattle.book.proofs.EntryLemmas.{get-front}
 use Rattle.replay.specs.declared.finding.Finding.{Finding}
 use Rattle.replay.specs.declared.finding.Finding.TheVariants as found
 use Rattle.book.specs.Entries.{Entry, Contents, At, states}
@@ -48,30 +49,28 @@ none_explained program = record {
   replies = tt;
 }
 
-start_explained : (Machine Form : Type 0) {Memory Place : Type 0} (rules : Rules Memory Place) (program : Program)
-    → IsLinearization program (history_of (start {Machine = Machine} {Form = Form} rules program)) []
-start_explained Machine Form rules program = simp (map-replicate, none_named) (none_explained program)
+module _ (Machine Form : Type 0) {Memory Place : Type 0} (rules : Rules Memory Place) (program : Program) where
+  abbrev S : Type 0
+  S = State Machine Memory Place Form
 
-module _ {Machine Memory Place Form : Type 0} (rules : Rules Memory Place) (program : Program) where
+  start_explained : IsLinearization program (history_of (start {Machine = Machine} {Form = Form} rules program)) []
+  start_explained = simp (map-replicate, none_named) (none_explained program)
+
   -- the linearization that was found of a state shows it
-  found_shown : (s : State Machine Memory Place Form) (f : Finding) (order : List OpId) → IsFindingOf rules program s f
-      → FindsOrder f order → IsShown rules program s order
+  found_shown : (s : S) (f : Finding) (order : List OpId) → IsFindingOf rules program s f → FindsOrder f order
+      → IsShown rules program s order
   found_shown s (found.Sound linearization) order right finds = ((right.0, right.1), rw finds at right.2)
   found_shown s _ order right finds = absurd finds
 
-  sound_well : (s : State Machine Memory Place Form) (f : Finding) → IsFindingOf rules program s f → is_sound f ≡ true
-      → IsWell rules program s
+  sound_well : (s : S) (f : Finding) → IsFindingOf rules program s f → is_sound f ≡ true → IsWell rules program s
   sound_well s (found.Sound order) right sound = (right.0, right.1)
   sound_well s _ right sound = absurd (true≢false (sym sound))
 
-  module _ (Same : State Machine Memory Place Form → State Machine Memory Place Form → Type 0)
-      (es : List (Entry (State Machine Memory Place Form)))
+  module _ (Same : S → S → Type 0) (es : List (Entry S))
       (law : IsLawful (machine_of rules program) Same (IsFindingOf rules program) es) where
     -- the line of the entry after some describes its state
-    line_tells : (front rest : List (Entry (State Machine Memory Place Form)))
-        (e : Entry (State Machine Memory Place Form)) (line : BookLine) → es ≡ front ++ e ∷ rest → 1 ≤ length front
-        → IsLineOf e.origin e.finding line
-        → Tells rules program (states front) line e.state
+    line_tells : (front rest : List (Entry S)) (e : Entry S) (line : BookLine) → es ≡ front ++ e ∷ rest
+        → 1 ≤ length front → IsLineOf e.origin e.finding line → Tells rules program (states front) line e.state
     line_tells front rest e line whole some of_e =
         let here : At (front ++ e ∷ rest) (length front + 0) e = get-append_right front (e ∷ rest) 0 e refl in
         let plain : length front + 0 ≡ length front = omega arith in
@@ -79,36 +78,33 @@ module _ {Machine Memory Place Form : Type 0} (rules : Rules Memory Place) (prog
         let from = law.origins (length front) e at some in
         let number : line.parent ≡ from.origin.parent = cc (from.recorded, of_e.step) in
         let thread : line.thread ≡ from.origin.thread = cc (from.recorded, of_e.step) in
-        let there = get_at front from.origin.parent from.earlier in
-        let parent : there.0 ≡ from.parent =
-        cc (get-append_left front (e ∷ rest) from.origin.parent there.0 there.1, from.entered, whole) in
-        let stands : slice_get (states front) line.parent ≡ Some from.parent.state =
-        rw (number, ← parent) (states-at front from.origin.parent there.0 there.1) in (
-          record { parent = from.parent.state; at = stands; step = rw thread from.step },
+        let parent =
+        get-front front (e ∷ rest) from.origin.parent from.parent (rw whole at from.entered) from.earlier in (
+          record {
+            parent = from.parent.state;
+            at = rw number (states-at front from.origin.parent from.parent parent);
+            step = rw thread from.step;
+          },
           found_shown e.state e.finding line.order (law.findings (length front) e at) of_e.order,
         )
 
-    written_continues : (front rest : List (Entry (State Machine Memory Place Form))) (lines : List BookLine)
-        → es ≡ front ++ rest → 1 ≤ length front
+    written_continues : (front rest : List (Entry S)) (lines : List BookLine) → es ≡ front ++ rest → 1 ≤ length front
         → AllZip (λ entry line. IsLineOf entry.origin entry.finding line) rest lines
         → Continues rules program (states front) lines (states es)
     written_continues front [] [] whole some z = ap states (whole ∙ append-nil front)
     written_continues front [] (line ∷ lines) whole some z = absurd z
     written_continues front (e ∷ rest) [] whole some z = absurd z
-    written_continues front (e ∷ rest) (line ∷ lines) whole some z =
-        let joined : states front ++ e.state ∷ [] ≡ states (front ++ e ∷ []) =
-        sym (map-append (λ (e : Entry (State Machine Memory Place Form)). e.state) front (e ∷ [])) in
-        let longer : length (front ++ e ∷ []) ≡ length front + 1 = length_push front e in (
-          e.state,
-          line_tells front rest e line whole some z.0,
-          rw joined
-              (written_continues (front ++ e ∷ []) rest lines (whole ∙ sym (append_assoc front (e ∷ []) rest))
-              (omega arith) z.1),
-        )
+    written_continues front (e ∷ rest) (line ∷ lines) whole some z = (
+      e.state,
+      line_tells front rest e line whole some z.0,
+      rw (← map-append (λ (e : Entry S). e.state) front (e ∷ []))
+          (written_continues (front ++ e ∷ []) rest lines (whole ∙ sym (append_assoc front (e ∷ []) rest))
+          (omega (arith, length_push front e)) z.1),
+    )
 
     -- the lines of a closed and sound book pass
-    lines_pass : (lines : List BookLine) (xs : List (Entry (State Machine Memory Place Form))) → es ≡ xs
-        → AreLinesOf xs lines → AreSound es → AreClosed (machine_of rules program) (AreStatesAlike rules) (states es)
+    lines_pass : (lines : List BookLine) (xs : List (Entry S)) → es ≡ xs → AreLinesOf xs lines → AreSound es
+        → AreClosed (machine_of rules program) (AreStatesAlike rules) (states es)
         → Pass Machine Form rules program lines
     lines_pass lines [] whole of_xs sound closed =
         absurd (let q : None ≡ Some law.start.0 = rw whole at law.start.1 in cc)
@@ -118,10 +114,7 @@ module _ {Machine Memory Place Form : Type 0} (rules : Rules Memory Place) (prog
         let starts : e.state ≡ start rules program = rw first law.start.2 in (
           states es,
           (
-            (
-              rw starts at (sound_well e.state e.finding (law.findings 0 e at) (sound 0 e at)),
-              start_explained Machine Form rules program,
-            ),
+            (rw starts at (sound_well e.state e.finding (law.findings 0 e at) (sound 0 e at)), start_explained),
             rw starts at (written_continues (e ∷ []) rest lines whole (omega arith) of_xs),
           ),
           closed,
@@ -137,5 +130,5 @@ written_pass rules book law itself (names, out) sound lines of_book =
     let m = machine_in rules book in
     let Same = CountsAsOne (rules book.machine) book.merge in
     let closed = worked_out_closed m Same (right_in rules book) book.entries law.law itself out in
-    lines_pass (rules book.machine) book.program Same book.entries law.law lines book.entries refl of_book sound
+    lines_pass _ _ (rules book.machine) book.program Same book.entries law.law lines book.entries refl of_book sound
     (rw names at closed)
