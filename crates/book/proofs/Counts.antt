@@ -1,10 +1,10 @@
 -- How many states the schedules reach.
-use Rattle.std.proofs.Common.{◌≡◌, ℕ, zero, suc, ◌+◌, ◌<◌, ◌≤◌, inl, inr, Bool, true, false, Some, None, List, [], ◌∷◌}
+use Rattle.std.proofs.Common.{◌≡◌, ℕ, zero, suc, ◌<◌, ◌≤◌, inl, inr, Bool, true, false, Some, List, [], ◌∷◌}
 use Rattle.std.proofs.Common.{◌++◌, length, take, count_by, get_or, refl, sym, ap, ◌∙◌, arith, slice_get, leb}
 use Rattle.std.proofs.Math.ListN.{length-map}
 use Rattle.std.specs.List.{prefix_len}
-use Rattle.std.proofs.lemmas.Bool.{cases_lt, le-leb, leb-false, leb-true, lt-leb}
-use Rattle.std.proofs.lemmas.Option.{get_or_from_slice_get, same_Some, slice_get-get_or, slice_get_within}
+use Rattle.std.proofs.lemmas.Bool.{cases_lt, leb-false, leb-true, lt-leb}
+use Rattle.std.proofs.lemmas.Option.{get_or_from_slice_get, slice_get-get_or, slice_get_within}
 use Rattle.std.proofs.lemmas.List.{length_push, length-take-le}
 use Rattle.std.proofs.lemmas.List.Sums.{sum_by-cons, prefix_len-le-length, prefix_len_passes, prefix_len_stops}
 use Rattle.replay.specs.declared.finding.Finding.{Finding}

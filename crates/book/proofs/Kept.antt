@@ -1,5 +1,5 @@
 -- A book stays lawful.
-use Rattle.std.proofs.Common.{◌≡◌, ◌≢◌, ℕ, ◌+◌, ◌<◌, ◌≤◌, ◌⊎◌, inl, inr, Bool, true, false, Some, List, [], ◌++◌, length}
+use Rattle.std.proofs.Common.{◌≡◌, ◌≢◌, ℕ, ◌+◌, ◌<◌, ◌≤◌, inl, inr, Bool, true, false, Some, List, [], ◌++◌, length}
 use Rattle.std.proofs.Common.{map, refl, sym, ◌∙◌, append-nil, arith, slice_get}
 use Rattle.book.specs.declared.entry.Mark.{Mark}
 use Rattle.std.proofs.lemmas.Bool.{true≢false}

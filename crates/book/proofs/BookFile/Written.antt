@@ -1,6 +1,6 @@
 -- The lines that a closed and sound book writes pass.
-use Rattle.std.proofs.Common.{rules, ◌≡◌, ℕ, zero, suc, ◌+◌, ◌≤◌, Bool, true, None, Some, List, [], ◌∷◌, ◌++◌}
-use Rattle.std.proofs.Common.{length, map, replicate, refl, sym, ap, ◌∙◌, arith, slice_get, append_assoc}
+use Rattle.std.proofs.Common.{rules, ◌≡◌, ℕ, zero, suc, ◌+◌, ◌≤◌, true, None, Some, List, [], ◌∷◌, ◌++◌}
+use Rattle.std.proofs.Common.{length, map, replicate, refl, sym, ap, ◌∙◌, arith, append_assoc}
 use Rattle.std.proofs.Common.{append-nil}
 use Rattle.std.specs.List.{AllZip}
 use Rattle.std.proofs.lemmas.Bool.{true≢false}
@@ -22,7 +22,7 @@ use Rattle.book.specs.Law.{IsLawful}
 use Rattle.replay.specs.Findings.{machine_of, IsFindingOf, is_sound}
 use Rattle.book.proofs.Closed.{worked_out_closed}
 use Rattle.replay.specs.Closed.{AreClosed}
-use Rattle.book.specs.Closed.{IsWorkedOut, IsClosed, AreSound}
+use Rattle.book.specs.Closed.{IsClosed, AreSound}
 use Rattle.book.specs.Books.{CountsAsOne, machine_in, right_in, IsLawfulIn}
 use Rattle.book.proofs.Unknown.{states-at}
 use Rattle.replay.specs.declared.file.line.BookLine.{BookLine}
