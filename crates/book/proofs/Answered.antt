@@ -59,6 +59,9 @@ module _ {Machine Memory Place Form : Type 0} (rules : Rules Memory Place) (prog
     (said : answered.said ≡ Some r) (fits : Fits rules program next)
     (last : All (λ (x : Thread Place). All (λ note. slice_index note t ≤ length thread.replies) x.notes)
     next.threads) where
+  abbrev IsUncounted : List ℕ → Type 0
+  IsUncounted note = slice_index note t ≤ length thread.replies
+
   abbrev ended : OpId
   ended = name t (length thread.replies)
 
@@ -94,15 +97,10 @@ module _ {Machine Memory Place Form : Type 0} (rules : Rules Memory Place) (prog
       IsSomeAnd-value _ (λ note. length thread.replies < slice_index note t)
       (rw (value_from_start b.thread b.index (notes_of next.threads)) at before) in
       option_and_then_some (λ (ns : List (List ℕ)). slice_get ns b.index)
-      (slice_get (notes_of next.threads) b.thread) note.0 note.1
-      (λ (ns : List (List ℕ)) (own : slice_get (notes_of next.threads) b.thread ≡ Some ns)
-      (here : slice_get ns b.index ≡ Some note.0).
+      (slice_get (notes_of next.threads) b.thread) note.0 note.1 (λ ns own here.
       let of = get-map (λ (x : Thread Place). x.notes) next.threads b.thread ns own in
-      let bounded : slice_index note.0 t ≤ length thread.replies =
-      all_get (λ note. slice_index note t ≤ length thread.replies) of.0.notes b.index note.0
-      (all_get (λ (x : Thread Place). All (λ note. slice_index note t ≤ length thread.replies) x.notes) next.threads
-      b.thread of.0 last of.1) (rw (← of.2) here) in
-      omega (arith, note.2))
+      let notes = all_get (λ (x : Thread Place). All IsUncounted x.notes) next.threads b.thread of.0 last of.1 in
+      omega (arith, note.2, all_get IsUncounted of.0.notes b.index note.0 notes (rw (← of.2) here)))
 
   has_replied : HasReplied (history_of state) (history_of next) ended r
   has_replied =
@@ -112,11 +110,8 @@ module _ {Machine Memory Place Form : Type 0} (rules : Rules Memory Place) (prog
         replied = rw (value_from_start t (length thread.replies) (replies_of next.threads), replies_longer)
             (grown_here (replies_of state.threads) t thread.replies r own);
         others = λ b apart.
-            rw (
-              value_from_start b.thread b.index (replies_of next.threads),
-              value_from_start b.thread b.index (replies_of state.threads),
-              replies_longer,
-            )
+            let value = value_from_start b.thread b.index in
+            rw (value (replies_of next.threads), value (replies_of state.threads), replies_longer)
             (grown_elsewhere (replies_of state.threads) t thread.replies r own b.thread b.index apart);
         begun = notes_still state.threads next.threads t thread there answered;
         last = none_after;
@@ -127,15 +122,13 @@ pub step_replied : {Machine Memory Place Form : Type 0} (rules : Rules Memory Pl
     (state next : State Machine Memory Place Form) (t : ℕ) → step rules program state t ≡ Some next
     → Fits rules program next → (a b : Thread Place) → slice_get state.threads t ≡ Some a
     → slice_get next.threads t ≡ Some b → (ended : OpId) (r : Bool) → ended.thread ≡ t
-    → ended.index ≡ length a.replies
-    → slice_get b.replies (length a.replies) ≡ Some r
+    → ended.index ≡ length a.replies → slice_get b.replies (length a.replies) ≡ Some r
     → All (λ (x : Thread Place). All (λ note. slice_index note ended.thread ≤ ended.index) x.notes) next.threads
     → HasReplied (history_of state) (history_of next) ended r
 step_replied rules program state next t leads fits a b at_a at_b ended r thread index answer last =
     let s = step_gone rules program state next t leads in
-    let same : s.0 ≡ a = same_Some _ _ (sym s.1 ∙ at_a) in
-    let now : s.2.now ≡ b =
-    same_Some _ _ (sym (now_there state.threads next.threads t s.0 s.1 s.2) ∙ at_b) in
+    let same : s.0 ≡ a = cc (s.1, at_a) in
+    let now : s.2.now ≡ b = cc (now_there state.threads next.threads t s.0 s.1 s.2, at_b) in
     let said : s.2.said ≡ Some r =
     sym (stated state.threads next.threads t s.0 s.1 s.2) ∙ rw (now, same) answer in
     let named : ended ≡ name t (length s.0.replies) = rw (same, ← index, ← thread) refl in

@@ -75,8 +75,7 @@ module _ {S : Type 0} (m : StepMachine S) where
       ≡ count_by (λ (r : Entry S). is_expanded r.mark) es + cond (is_expanded k) 1 0
   taken_count [] i k e at closed = absurd (cc)
   taken_count (d ∷ es) zero k e at closed =
-      let shut : is_expanded d.mark ≡ false = (let q : d ≡ e = cc in rw q closed) in
-      simp (sum_by-cons, shut) (omega arith)
+      let same : d ≡ e = cc in simp sum_by-cons (rw (same, closed) (omega arith))
   taken_count (d ∷ es) (suc i) k e at closed = simp sum_by-cons (omega (arith, taken_count es i k e at closed))
 
   opened_count : (i : ℕ) (us : List (Successor S))

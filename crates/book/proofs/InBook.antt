@@ -33,16 +33,14 @@ use Rattle.book.proofs.Ways.{one_way, step_of, way_back, way_ends, way_run}
 
 -- what is known of an entry that is taken: it was the next, and its state is lent
 pub record IsTakenOne {Machine Memory Place Form : Type 0} (rules : Machine → Rules Memory Place)
-    (b : Contents Machine (State Machine Memory Place Form))
-    (i : ℕ) (state : State Machine Memory Place Form) (new : List (Entry (State Machine Memory Place Form))) : Type
-    0 where
+    (b : Contents Machine (State Machine Memory Place Form)) (i : ℕ) (state : State Machine Memory Place Form)
+    (new : List (Entry (State Machine Memory Place Form))) : Type 0 where
   pub takes : Takes (machine_in rules b).steps b.entries new i state
   pub fits : Fits (rules b.machine) b.program state
   pub bounded : state.steps < b.limit
 
 module _ {Machine Memory Place Form : Type 0} {rules : Machine → Rules Memory Place}
-    {label_of : State Machine Memory Place Form → List ℕ}
-    {b : Contents Machine (State Machine Memory Place Form)}
+    {label_of : State Machine Memory Place Form → List ℕ} {b : Contents Machine (State Machine Memory Place Form)}
     (book : IsBook rules label_of b) where
   abbrev S : Type 0
   S = State Machine Memory Place Form
@@ -55,6 +53,9 @@ module _ {Machine Memory Place Form : Type 0} {rules : Machine → Rules Memory 
 
   abbrev pub same_in : S → S → Bool
   same_in = same_as label_of
+
+  abbrev Same : S → S → Type 0
+  Same = CountsAsOne (rules b.machine) b.merge
 
   -- each entry has fewer steps than the book may have entries
   bounded_at : (i : ℕ) (e : Entry S) → At b.entries i e → e.state.steps < b.limit
@@ -98,8 +99,8 @@ module _ {Machine Memory Place Form : Type 0} {rules : Machine → Rules Memory 
         })
 
   -- what is so of each state of the entries is so of those that are lent
-  pub states_fit : {A : Type 0} (range : List (ℕ × Arc S A))
-      → AreStatesOf b.entries range → AllStates (Fits (rules b.machine) b.program) range
+  pub states_fit : {A : Type 0} (range : List (ℕ × Arc S A)) → AreStatesOf b.entries range
+      → AllStates (Fits (rules b.machine) b.program) range
   states_fit range states =
       so_of_range m same_in right (Fits (rules b.machine) b.program) b.entries range book.law.law.fit states
 
@@ -119,8 +120,8 @@ module _ {Machine Memory Place Form : Type 0} {rules : Machine → Rules Memory 
       (above : IsOpenFrom now.entries start)
       (steps : (e : Entry S) × At b.entries start e × (e.state.steps ≡ k))
       (below : (i : ℕ) (e : Entry S) → At now.entries i e → i < end → e.state.steps ≤ k)
-      (beyond : (i : ℕ) (e : Entry S) → At now.entries i e → end ≤ i
-      → k < e.state.steps) (within : end ≤ length now.entries) where
+      (beyond : (i : ℕ) (e : Entry S) → At now.entries i e → end ≤ i → k < e.state.steps)
+      (within : end ≤ length now.entries) where
     pub layer_there : IsLayerAt m.steps b.entries start end
     layer_there =
         layer_at m same_in right b.entries now.entries (ap (λ (q : Contents Machine S). q.entries) view) start next
@@ -136,8 +137,7 @@ module _ {Machine Memory Place Form : Type 0} {rules : Machine → Rules Memory 
 
     pub layer_given : {A : Type 0} (range : List (ℕ × Arc S A))
         → map (λ (p : ℕ × Arc S A). p.0) range ≡ range_with_len start (end - start)
-        → AreStatesOf b.entries range → {labels : List (List ℕ)}
-        (new : Kept S)
+        → AreStatesOf b.entries range → {labels : List (List ℕ)} (new : Kept S)
         → new ≡ record { entries = with_marks b.entries (range_with_len start (end - start)) Taken; labels = labels }
         → TakesLayer m.steps b.entries new.entries range
     layer_given range numbers states new after =
@@ -152,8 +152,7 @@ module _ {Machine Memory Place Form : Type 0} {rules : Machine → Rules Memory 
         (omega (arith, layer.some)) layer.entry layer.there layer.later (rw after refl)
 
   -- none is next where all are expanded, or none is open
-  pub none_of_expanded : position (λ (e : Entry S). not (is_expanded e.mark)) b.entries
-      ≡ None
+  pub none_of_expanded : position (λ (e : Entry S). not (is_expanded e.mark)) b.entries ≡ None
       → (i : ℕ) (e : Entry S) → IsNext m.steps b.entries i e → ⊥
   none_of_expanded = no_next_expanded m same_in right b.entries book.law.law
 
@@ -162,21 +161,18 @@ module _ {Machine Memory Place Form : Type 0} {rules : Machine → Rules Memory 
   none_of_open = no_next_open m same_in right b.entries book.law.law
 
   -- a is the first that is not expanded, which has j steps, and c the first open one, which has k
-  module _ (a c j k : ℕ)
-      (left : position (λ (e : Entry S). not (is_expanded e.mark)) b.entries ≡ Some a)
+  module _ (a c j k : ℕ) (left : position (λ (e : Entry S). not (is_expanded e.mark)) b.entries ≡ Some a)
       (first : position (λ (e : Entry S). is_open e.mark) b.entries ≡ Some c)
       (at_a : (e : Entry S) × At b.entries a e × (e.state.steps ≡ j))
       (at_c : (e : Entry S) × At b.entries c e × (e.state.steps ≡ k)) where
-    pub open_is_next : k ≡ j → (e : Entry S)
-        × IsNext m.steps b.entries c e
+    pub open_is_next : k ≡ j → (e : Entry S) × IsNext m.steps b.entries c e
     open_is_next same = (
       at_c.0,
-      next_from m same_in right b.entries book.law.law a c left first at_a.0
-          at_c.0 at_a.1 at_c.1 (at_c.2 ∙ same ∙ sym at_a.2),
+      next_from m same_in right b.entries book.law.law a c left first at_a.0 at_c.0 at_a.1 at_c.1
+          (at_c.2 ∙ same ∙ sym at_a.2),
     )
 
-    pub open_is_later : (k ≡ j → ⊥) → (i : ℕ) (e : Entry S)
-        → IsNext m.steps b.entries i e → ⊥
+    pub open_is_later : (k ≡ j → ⊥) → (i : ℕ) (e : Entry S) → IsNext m.steps b.entries i e → ⊥
     open_is_later other =
         no_next_later m same_in right b.entries book.law.law a c left first at_a.0 at_c.0 at_a.1 at_c.1
         (λ (q : at_c.0.state.steps ≡ at_a.0.state.steps). other (sym at_c.2 ∙ q ∙ at_a.2))
@@ -186,8 +182,7 @@ module _ {Machine Memory Place Form : Type 0} {rules : Machine → Rules Memory 
       → IsExpandedTo m.steps b.entries n
   all_expanded_to n none i e at bounded = worked_out b.entries none i e at
 
-  module _ (a k n : ℕ)
-      (left : position (λ (e : Entry S). not (is_expanded e.mark)) b.entries ≡ Some a)
+  module _ (a k n : ℕ) (left : position (λ (e : Entry S). not (is_expanded e.mark)) b.entries ≡ Some a)
       (at_a : (e : Entry S) × At b.entries a e × (e.state.steps ≡ k)) where
     pub left_to : k ≤ n → IsLeftTo m.steps b.entries n
     left_to le =
@@ -202,27 +197,19 @@ module _ {Machine Memory Place Form : Type 0} {rules : Machine → Rules Memory 
           | inr le ↦ absurd (omega (arith, at_a.2, book.law.law.ordered a i at_a.0 e at_a.1 at le))
         ]
 
-  -- each state that a stood-for one reaches is stood for
-  pub stands_for_reached : StandsForReached m (AreOneBy same_in) b.entries
-  stands_for_reached =
-      stands_along m same_in right book.machine book.merges b.entries book.law.law
-
   -- what is known by labels is so by what counts as one
   pub lawful_in : IsLawfulIn rules b
-  lawful_in =
-      book_as m book.machine (AreOneBy same_in) (CountsAsOne (rules b.machine) b.merge) book.counts right b book.law
+  lawful_in = book_as m book.machine (AreOneBy same_in) Same book.counts right b book.law
 
-  pub finds_in : FindsAlike m (CountsAsOne (rules b.machine) b.merge) right
-  finds_in =
-      finds_as m book.machine (AreOneBy same_in) (CountsAsOne (rules b.machine) b.merge) book.counts
-      right book.findings
+  pub finds_in : FindsAlike m Same right
+  finds_in = finds_as m book.machine (AreOneBy same_in) Same book.counts right book.findings
 
-  pub reached_in : StandsForReached m (CountsAsOne (rules b.machine) b.merge) b.entries
+  pub reached_in : StandsForReached m Same b.entries
   reached_in =
-      reached_as m book.machine (AreOneBy same_in) (CountsAsOne (rules b.machine) b.merge)
-      book.counts b.entries book.law.law.fit stands_for_reached
+      reached_as m book.machine (AreOneBy same_in) Same book.counts b.entries book.law.law.fit
+      (stands_along m same_in right book.machine book.merges b.entries book.law.law)
 
-  pub decided_in : IsDecided m (CountsAsOne (rules b.machine) b.merge)
+  pub decided_in : IsDecided m Same
   decided_in = (same_in, book.merges, book.counts)
 
   -- the way to an entry, followed back
@@ -237,16 +224,15 @@ module _ {Machine Memory Place Form : Type 0} {rules : Machine → Rules Memory 
           → (origin.parent < length now.entries)
           × IsWay now.entries origin.parent (reverse (c ++ origin.thread ∷ [])) id
       one_back origin is =
-          rw (← view)
-          (way_back m same_in right b.entries book.law.law i id c entry.0 origin entry.1 (entry.2 ∙ is))
+          rw (← view) (way_back m same_in right b.entries book.law.law i id c entry.0 origin entry.1 (entry.2 ∙ is))
 
       pub at_start : o ≡ None → IsWay now.entries i c id → IsWay now.entries 0 c id
       at_start is =
           rw (← view) (way_ends m same_in right b.entries book.law.law i id c entry.0 entry.1 (entry.2 ∙ is))
 
     pub way_leads_to : (c : List ℕ) (id : ℕ) → id < length now.entries → IsWay now.entries 0 c id
-        → (e : Entry S) × At now.entries id e
-        × (after (machine_in rules now) c ≡ Some e.state) × (length c ≡ e.state.steps)
+        → (e : Entry S) × At now.entries id e × (after (machine_in rules now) c ≡ Some e.state)
+        × (length c ≡ e.state.steps)
     way_leads_to c id =
         rw (← view) (λ within way.
         let e = get_at b.entries id within in
