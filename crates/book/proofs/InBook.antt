@@ -23,11 +23,10 @@ use Rattle.replay.specs.declared.finding.Finding.{Finding}
 use Rattle.std.proofs.lemmas.Bool.{cases_lt}
 use Rattle.book.proofs.Agreeing.{book_as, finds_as, reached_as}
 use Rattle.book.proofs.Coverage.{stands_along}
-use Rattle.book.proofs.Closed.{worked_out}
 use Rattle.book.proofs.Growth.{steps_bounded}
 use Rattle.book.proofs.LawfulBooks.{taken_book}
 use Rattle.book.proofs.Marks.{expanded_from, not_expanded_from}
-use Rattle.book.proofs.Next.{first_passes, next_from, no_next_expanded, no_next_later, no_next_open}
+use Rattle.book.proofs.Next.{first_passes, next_from, no_next_later}
 use Rattle.book.proofs.Ranges.{IsLayerAt, layer_at, range_book, so_of_range, takes_layer, takes_range}
 use Rattle.book.proofs.Ways.{one_way, step_of, way_back, way_ends, way_run}
 
@@ -151,15 +150,6 @@ module _ {Machine Memory Place Form : Type 0} {rules : Machine → Rules Memory 
         takes_range m.steps b.entries new.entries start end (omega (arith, layer.some)) layer.range
         (omega (arith, layer.some)) layer.entry layer.there layer.later (rw after refl)
 
-  -- none is next where all are expanded, or none is open
-  pub none_of_expanded : position (λ (e : Entry S). not (is_expanded e.mark)) b.entries ≡ None
-      → (i : ℕ) (e : Entry S) → IsNext m.steps b.entries i e → ⊥
-  none_of_expanded = no_next_expanded m same_in right b.entries book.law.law
-
-  pub none_of_open : position (λ (e : Entry S). is_open e.mark) b.entries ≡ None
-      → (i : ℕ) (e : Entry S) → IsNext m.steps b.entries i e → ⊥
-  none_of_open = no_next_open m same_in right b.entries book.law.law
-
   -- a is the first that is not expanded, which has j steps, and c the first open one, which has k
   module _ (a c j k : ℕ) (left : position (λ (e : Entry S). not (is_expanded e.mark)) b.entries ≡ Some a)
       (first : position (λ (e : Entry S). is_open e.mark) b.entries ≡ Some c)
@@ -176,11 +166,6 @@ module _ {Machine Memory Place Form : Type 0} {rules : Machine → Rules Memory 
     open_is_later other =
         no_next_later m same_in right b.entries book.law.law a c left first at_a.0 at_c.0 at_a.1 at_c.1
         (λ (q : at_c.0.state.steps ≡ at_a.0.state.steps). other (sym at_c.2 ∙ q ∙ at_a.2))
-
-  -- where no entry is left, all of at most n steps are expanded
-  pub all_expanded_to : (n : ℕ) → position (λ (e : Entry S). not (is_expanded e.mark)) b.entries ≡ None
-      → IsExpandedTo m.steps b.entries n
-  all_expanded_to n none i e at bounded = worked_out b.entries none i e at
 
   module _ (a k n : ℕ) (left : position (λ (e : Entry S). not (is_expanded e.mark)) b.entries ≡ Some a)
       (at_a : (e : Entry S) × At b.entries a e × (e.state.steps ≡ k)) where

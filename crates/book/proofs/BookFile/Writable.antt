@@ -79,8 +79,7 @@ module _ {Machine Memory Place Form : Type 0} (rules : Rules Memory Place) (prog
 
 -- one more line
 pub lines_push : {S : Type 0} (es : List (Entry S)) (lines : List BookLine) (e : Entry S) (line : BookLine)
-    → 1 ≤ length es
-    → AreLinesOf es lines → IsLineOf e.origin e.finding line
+    → 1 ≤ length es → AreLinesOf es lines → IsLineOf e.origin e.finding line
     → AreLinesOf (es ++ e ∷ []) (lines ++ line ∷ [])
 lines_push [] lines e line some are is = absurd (omega arith)
 lines_push {S} (start ∷ es) lines e line some are is =
@@ -105,14 +104,13 @@ pub written_next : {S : Type 0} (count : ℕ) (es : List (Entry S)) (i : ℕ) (e
     (text more : List ℕ) → At es i e → 0 < i → IsLineOf e.origin e.finding line → IsProper line
     → more ≡ text ++ ended (text_of line ∷ []) → HasWritten count (take i es) text
     → HasWritten count (take (i + 1) es) more
-written_next {S} count es i e line text more at some is proper added so =
+written_next count es i e line text more at some is proper added so =
     let within : i < length es = slice_get_within es i e at in
-    let longer : take (i + 1) es ≡ take i es ++ e ∷ [] =
-    take_more es i e within ∙ ap (λ x. take i es ++ x ∷ []) (get_or_from_slice_get es i e e at) in
-    let taken : length (take i es) ≡ i = length-take-le i es (omega arith) in
+    let longer = rw (get_or_from_slice_get es i e e at) at (take_more es i e within) in
     record {
       lines = so.lines ++ line ∷ [];
-      of_entries = rw longer (lines_push (take i es) so.lines e line (omega arith) so.of_entries is);
+      of_entries = rw longer (lines_push (take i es) so.lines e line
+          (omega (arith, length-take-le i es (omega arith))) so.of_entries is);
       proper = All-push IsProper so.lines line so.proper proper;
       whole = rw (added, so.whole) (sym (written_push count so.lines line));
     }

@@ -30,14 +30,11 @@ use Rattle.replay.specs.BookFile.Replays.{IsWell, IsShown, Tells, Continues}
 use Rattle.replay.specs.BookFile.Checks.{Pass}
 use Rattle.book.specs.BookFile.Writing.{FindsOrder, IsLineOf, AreLinesOf}
 
--- nothing began in threads that began nothing
-none_named : {A : Type 0} (n t : ℕ) → all_named {A = A} t (replicate n []) ≡ []
-none_named zero t = refl
-none_named (suc n) t = none_named n (t + 1)
-
-map-replicate : {X Y : Type 0} (f : X → Y) (n : ℕ) (x : X) → map f (replicate n x) ≡ replicate n (f x)
-map-replicate f zero x = refl
-map-replicate f (suc n) x = ap (λ xs. f x ∷ xs) (map-replicate f n x)
+-- threads that began nothing have no names
+none_named : {X A : Type 0} (f : X → List A) (n : ℕ) (x : X) → f x ≡ [] → (t : ℕ)
+    → all_named t (map f (replicate n x)) ≡ []
+none_named f zero x none t = refl
+none_named f (suc n) x none t = rw none (none_named f n x none (t + 1))
 
 -- the empty list explains the history of nothing
 none_explained : (program : Program) → IsLinearization program (record { begun = []; finished = [] }) []
@@ -54,7 +51,7 @@ module _ (Machine Form : Type 0) {Memory Place : Type 0} (rules : Rules Memory P
   S = State Machine Memory Place Form
 
   start_explained : IsLinearization program (history_of (start {Machine = Machine} {Form = Form} rules program)) []
-  start_explained = simp (map-replicate, none_named) (none_explained program)
+  start_explained = simp none_named (none_explained program)
 
   -- the linearization that was found of a state shows it
   found_shown : (s : S) (f : Finding) (order : List OpId) → IsFindingOf rules program s f → FindsOrder f order
