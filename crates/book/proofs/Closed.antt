@@ -41,8 +41,7 @@ worked_out_closed m Same right es law itself out = record {
 -- where each of them is sound, every schedule of any length reaches a sound state
 pub closed_holds : {S : Type 0} (m : StepMachine S) (same : S → S → Bool) (right : S → Finding → Type 0) → IsMachine m
     → Merges m same → ((a b : S) → m.Fits a → m.Fits b → same a b ≡ true → IsSound right a → IsSound right b)
-    → (es : List (Entry S)) → IsLawful m (AreOneBy same) right es → IsWorkedOut es → AreSound es
-    → HoldsForEvery m right
+    → (es : List (Entry S)) → IsLawful m (AreOneBy same) right es → IsWorkedOut es → AreSound es → HoldsForEvery m right
 closed_holds m same right machine merges alike es law out sound c s leads =
     let w = covered m machine (AreOneBy same) merges.joined merges.steps_alike (states es)
     (worked_out_closed m (AreOneBy same) right es law (merges.itself m.start) out) c s leads in

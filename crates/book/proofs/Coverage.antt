@@ -51,8 +51,7 @@ module _ {S : Type 0} (m : StepMachine S) (same : S → S → Bool) (right : S �
   -- so a schedule of at most n steps reaches a state that is stood for
   pub stands_after : (entries : List (Entry S)) → IsLawful m (AreOneBy same) right entries → (n : ℕ)
       → ((i : ℕ) (e : Entry S) → At entries i e → m.steps e.state < n → e.mark ≡ Expanded)
-      → (c : List ℕ) (s : S) → length c ≤ n → after m c ≡ Some s
-      → StandsFor m (AreOneBy same) entries s
+      → (c : List ℕ) (s : S) → length c ≤ n → after m c ≡ Some s → StandsFor m (AreOneBy same) entries s
   stands_after entries law n done c s short leads =
       let first = law.start in
       stands_along entries law n done c m.start s machine.start_fits

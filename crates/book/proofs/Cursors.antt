@@ -31,7 +31,7 @@ module _ {X : Type 0} (p : X → Bool) (xs : List X) where
   pub first_within : (i : ℕ) → position p xs ≡ Some i → i < length xs
   first_within i h = let f = first_passes p xs i h in slice_get_within xs i f.0 f.1
 
-  -- the first that passes is at most one
+  -- one that passes, and before which none does, is the first
   pub first_is : (i : ℕ) (x : X) → slice_get xs i ≡ Some x → p x ≡ true
       → ((k : ℕ) (y : X) → slice_get xs k ≡ Some y → k < i → p y ≡ false) → position p xs ≡ Some i
   first_is i x at passes before =

@@ -41,33 +41,27 @@ with_mark-append (e ∷ es) fs zero k h = refl
 with_mark-append (e ∷ es) fs (suc i) k h = ap (λ xs. e ∷ xs) (with_mark-append es fs i k (omega arith))
 
 module _ {X S : Type 0} (m : StepMachine S) (same : S → S → Bool) (right : S → Finding → Type 0) (machine : IsMachine m)
-    (merges : Merges m same)
-    (b : Contents X S) (book : IsLawfulBook m (AreOneBy same) right b) (i : ℕ) (e : Entry S) (at : At b.entries i e)
-    (taken : e.mark ≡ Taken)
-    (xs : List (Successor S)) (expansion : IsExpansion m right e.state xs)
+    (merges : Merges m same) (b : Contents X S) (book : IsLawfulBook m (AreOneBy same) right b) (i : ℕ) (e : Entry S)
+    (at : At b.entries i e) (taken : e.mark ≡ Taken) (xs : List (Successor S))
+    (expansion : IsExpansion m right e.state xs)
     (appended : List (Entry S)) (is : appended ≡ b.entries ++ map (opened i) (unknown same (states b.entries) xs)) where
   pub length_appended : length appended ≡ length b.entries + length (unknown same (states b.entries) xs)
   length_appended = simp (is, length-append, length-map) refl
 
   -- so many are new
-  pub entered_is : (entered was now : ℕ) → entered ≡ now - was → was ≡ length b.entries
-      → now ≡ length appended
+  pub entered_is : (entered was now : ℕ) → entered ≡ now - was → was ≡ length b.entries → now ≡ length appended
       → entered ≡ length (unknown same (states b.entries) xs)
   entered_is entered was now p q r = omega (arith, length_appended)
 
   pub entered_within : (entered was now steps : ℕ) → entered ≡ now - was → was ≡ length b.entries
-      → now ≡ length appended
-      → steps ≡ length xs → entered ≤ steps
+      → now ≡ length appended → steps ≡ length xs → entered ≤ steps
   entered_within entered was now steps p q r u =
       omega (arith, entered_is entered was now p q r, length-unknown same (states b.entries) xs)
 
   -- the entry is taken still
   pub still_taken : IsTaken appended i
-  still_taken = (
-    e,
-    rw is (get-append_left b.entries (map (opened i) (unknown same (states b.entries) xs)) i e at),
-    taken,
-  )
+  still_taken =
+      (e, rw is (get-append_left b.entries (map (opened i) (unknown same (states b.entries) xs)) i e at), taken)
 
   pub entered_entries : (new : List (Entry S)) → new ≡ with_mark appended i Expanded
       → new ≡ with_successors same b.entries i xs
@@ -78,8 +72,7 @@ module _ {X S : Type 0} (m : StepMachine S) (same : S → S → Bool) (right : S
 
   pub lawful_entered : (new : List (Entry S)) (entered met : ℕ) → new ≡ with_mark appended i Expanded
       → entered ≡ length (unknown same (states b.entries) xs) → entered + met ≡ length xs
-      → length appended ≤ b.limit
-      → IsLawfulBook m (AreOneBy same) right (record b { entries = new; met = b.met + met })
+      → length appended ≤ b.limit → IsLawfulBook m (AreOneBy same) right (record b { entries = new; met = b.met + met })
   lawful_entered new entered met marked count each room =
       rw (entered_entries new marked)
       (entered_book m same right machine merges b book i e at taken xs expansion entered met (sym count) each

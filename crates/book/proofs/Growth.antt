@@ -24,7 +24,7 @@ use Rattle.book.proofs.Marks.{expanded_from, not_expanded_from, open_between, op
 -- ---- which entries are left
 module _ {S : Type 0} (m : StepMachine S) (same : S → S → Bool) (right : S → Finding → Type 0) (machine : IsMachine m)
     (es : List (Entry S)) (law : IsLawful m (AreOneBy same) right es) where
-  -- an entry has no more steps than its number
+  -- an entry has no more steps than its number, so it has fewer than there may be entries
   pub steps_bounded : (i n : ℕ) (e : Entry S) → At es i e → length es ≤ n → m.steps e.state < n
   steps_bounded i n e at within =
       let bounded =
@@ -148,6 +148,5 @@ taken_is steps a b i s takes =
       w.0,
       ap (λ es. slice_get es i) takes.after ∙ w.1,
       elim w.3 [ inl l ↦ l.1 | inr r ↦ absurd (r.0 refl) ],
-      w.2.state
-          ∙ takes.state,
+      w.2.state ∙ takes.state,
     )

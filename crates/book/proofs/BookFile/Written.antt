@@ -1,6 +1,6 @@
 -- The lines that a closed and sound book writes pass.
 use Rattle.std.proofs.Common.{rules, ◌≡◌, ℕ, zero, suc, ◌+◌, ◌≤◌, true, None, Some, List, [], ◌∷◌, ◌++◌}
-use Rattle.std.proofs.Common.{length, map, replicate, refl, sym, ap, ◌∙◌, arith, append_assoc}
+use Rattle.std.proofs.Common.{length, map, replicate, refl, sym, ap, ◌∙◌, arith, append_assoc, add-zero}
 use Rattle.std.proofs.Common.{append-nil}
 use Rattle.std.specs.List.{AllZip}
 use Rattle.std.proofs.lemmas.Bool.{true≢false}
@@ -69,9 +69,8 @@ module _ (Machine Form : Type 0) {Memory Place : Type 0} (rules : Rules Memory P
     line_tells : (front rest : List (Entry S)) (e : Entry S) (line : BookLine) → es ≡ front ++ e ∷ rest
         → 1 ≤ length front → IsLineOf e.origin e.finding line → Tells rules program (states front) line e.state
     line_tells front rest e line whole some of_e =
-        let here : At (front ++ e ∷ rest) (length front + 0) e = get-append_right front (e ∷ rest) 0 e refl in
-        let plain : length front + 0 ≡ length front = omega arith in
-        let at : At es (length front) e = rw (whole, ← plain) here in
+        let at : At es (length front) e =
+        rw whole (rw add-zero at (get-append_right front (e ∷ rest) 0 e refl)) in
         let from = law.origins (length front) e at some in
         let number : line.parent ≡ from.origin.parent = cc (from.recorded, of_e.step) in
         let thread : line.thread ≡ from.origin.thread = cc (from.recorded, of_e.step) in
