@@ -5,7 +5,7 @@ use Rattle.std.proofs.Common.{◌∙◌, inl, inr, arith, slice_get, slice_set}
 use Rattle.std.specs.Prelude.{slice_index}
 use Rattle.std.proofs.lemmas.Bool.{cases_eq}
 use Rattle.std.proofs.lemmas.List.Elements.{All-contains}
-use Rattle.std.proofs.lemmas.Option.{same_Some, slice_get_within}
+use Rattle.std.proofs.lemmas.Option.{slice_get_within}
 use Rattle.std.proofs.lemmas.Option.{option_and_then_some}
 use Rattle.lin.proofs.Lists.{Contains-slice_get, IsSomeAnd-value}
 use Rattle.std.proofs.lemmas.List.{length_push}
