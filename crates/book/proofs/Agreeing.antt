@@ -5,7 +5,7 @@ use Rattle.replay.specs.declared.finding.Finding.{Finding}
 use Rattle.book.specs.Counts.{IsCount}
 use Rattle.book.specs.Entries.{At, Contents, Entry}
 use Rattle.book.specs.Law.{FindsAlike, IsLawfulBook, StandsFor, StandsForReached}
-use Rattle.replay.specs.Schedule.{StepMachine, IsMachine}
+use Rattle.replay.specs.Schedule.{StepMachine, IsMachine, IsReachableWithin}
 use Rattle.book.proofs.Ways.{fits_after, fits_along}
 
 -- relations that are so of the same pairs of states of the machine
@@ -18,39 +18,29 @@ module _ {S : Type 0} (m : StepMachine S) (machine : IsMachine m) (R Q : S → S
 
   -- such relations count as many states
   pub count_as : (n k : ℕ) → IsCount m R n k → IsCount m Q n k
-  count_as n k count = record {
-    states = count.states;
-    many = count.many;
-    apart = (λ i j x y at_i at_j h.
-        let way = count.reached i x at_i in
-        let other = count.reached j y at_j in
-        count.apart i j x y at_i at_j
-        ((agree x y (fits_after m machine way.0 x way.2) (fits_after m machine other.0 y other.2)).1 h));
-    reached = count.reached;
-    all = (λ s r.
-        let w = count.all s r in
-        let way = count.reached w.0 w.1 w.2 in (
-          w.0,
-          w.1,
-          w.2,
-          (agree w.1 s (fits_after m machine way.0 w.1 way.2) (fits_after m machine r.0 s r.2)).0 w.3,
-        ));
-  }
+  count_as n k count =
+      let fits = λ (s : S) (way : IsReachableWithin m n s). fits_after m machine way.0 s way.2 in
+      record {
+        states = count.states;
+        many = count.many;
+        apart = (λ i j x y at_i at_j h.
+            count.apart i j x y at_i at_j
+            ((agree x y (fits x (count.reached i x at_i)) (fits y (count.reached j y at_j))).1 h));
+        reached = count.reached;
+        all = (λ s r.
+            let w = count.all s r in
+            (w.0, w.1, w.2, (agree w.1 s (fits w.1 (count.reached w.0 w.1 w.2)) (fits s r)).0 w.3));
+      }
 
-  stands_as : (es : List (Entry S)) → ((i : ℕ) (e : Entry S) → At es i e → m.Fits e.state) → (s : S) → m.Fits s
-      → StandsFor m R es s → StandsFor m Q es s
-  stands_as es fit s fits w = (w.0, w.1, w.2, (agree w.1.state s (fit w.0 w.1 w.2) fits).0 w.3, w.4)
+  module _ (es : List (Entry S)) (fit : (i : ℕ) (e : Entry S) → At es i e → m.Fits e.state) where
+    stands_as : (s : S) → m.Fits s → StandsFor m R es s → StandsFor m Q es s
+    stands_as s fits (i, e, at, one, bounded) = (i, e, at, (agree e.state s (fit i e at) fits).0 one, bounded)
 
-  stands_back : (es : List (Entry S)) → ((i : ℕ) (e : Entry S) → At es i e → m.Fits e.state) → (s : S) → m.Fits s
-      → StandsFor m Q es s → StandsFor m R es s
-  stands_back es fit s fits w = (w.0, w.1, w.2, (agree w.1.state s (fit w.0 w.1 w.2) fits).1 w.3, w.4)
-
-  -- and entries that stand for what is reached by one relation do so by the other
-  pub reached_as : (es : List (Entry S)) → ((i : ℕ) (e : Entry S) → At es i e → m.Fits e.state)
-      → StandsForReached m R es → StandsForReached m Q es
-  reached_as es fit reached n done c r s fits here leads short =
-      stands_as es fit s (fits_along m machine c r s fits leads)
-      (reached n done c r s fits (stands_back es fit r fits here) leads short)
+    -- and entries that stand for what is reached by one relation do so by the other
+    pub reached_as : StandsForReached m R es → StandsForReached m Q es
+    reached_as reached n done c r s fits (i, e, at, one, bounded) leads short =
+        stands_as s (fits_along m machine c r s fits leads)
+        (reached n done c r s fits (i, e, at, (agree e.state r (fit i e at) fits).1 one, bounded) leads short)
 
   module _ (right : S → Finding → Type 0) where
     pub finds_as : FindsAlike m R right → FindsAlike m Q right

@@ -1,12 +1,13 @@
 -- An order that a state lends to a step that ended an operation.
-use Rattle.std.proofs.Common.{◌≡◌, ◌≢◌, ℕ, zero, suc, ◌+◌, ◌<◌, ◌≤◌, Bool, true, false}
-use Rattle.std.proofs.Common.{Some, None, IsSome, All, List, [], ◌∷◌, ◌++◌, length, refl, sym, ap, ap₂}
-use Rattle.std.proofs.Common.{◌∙◌, arith, slice_get, slice_set, subst, ◌==◌, eqb-true, eq-eqb}
+use Rattle.std.proofs.Common.{◌≡◌, ◌≢◌, ℕ, zero, suc, ◌<◌, ◌≤◌, Bool}
+use Rattle.std.proofs.Common.{Some, All, List, [], ◌∷◌, ◌++◌, length, refl, sym, ap, ap₂}
+use Rattle.std.proofs.Common.{◌∙◌, inl, inr, arith, slice_get, slice_set}
 use Rattle.std.specs.Prelude.{slice_index}
-use Rattle.std.proofs.lemmas.Option.{get_or_from_slice_get, same_Some, slice_get_within}
-use Rattle.std.proofs.lemmas.Bool.{true≢false}
+use Rattle.std.proofs.lemmas.Bool.{cases_eq}
+use Rattle.std.proofs.lemmas.List.Elements.{All-contains}
+use Rattle.std.proofs.lemmas.Option.{slice_get_within}
 use Rattle.std.proofs.lemmas.Option.{option_and_then_some}
-use Rattle.lin.proofs.Lists.{IsSomeAnd-value}
+use Rattle.lin.proofs.Lists.{Contains-slice_get, IsSomeAnd-value}
 use Rattle.std.proofs.lemmas.List.{length_push}
 use Rattle.sched_program.specs.Program.{Program}
 use Rattle.sched_program.specs.History.{IsBegun, EndedBefore}
@@ -15,7 +16,7 @@ use Rattle.lin.specs.Reply.{HasReplied}
 use Rattle.tree_machine.specs.Rules.{Rules}
 use Rattle.tree_machine.specs.History.{history_of}
 use Rattle.tree_machine.specs.Step.{step}
-use Rattle.tree_machine.specs.Step.{Fits, ThreadFits}
+use Rattle.tree_machine.specs.Step.{Fits}
 use Rattle.tree_machine.specs.declared.state.Thread.{Thread}
 use Rattle.tree_machine.specs.declared.state.State.{State}
 use Rattle.tree_machine.specs.Alike.{notes_of, replies_of}
@@ -32,10 +33,7 @@ pushed_elsewhere (y ∷ xs) x zero apart = refl
 pushed_elsewhere (y ∷ xs) x (suc i) apart = pushed_elsewhere xs x i (λ e. apart (ap suc e))
 
 all_get : {X : Type 0} (P : X → Type 0) (xs : List X) (i : ℕ) (x : X) → All P xs → slice_get xs i ≡ Some x → P x
-all_get P xs i x every h = subst P (get_or_from_slice_get xs i x x h) (every i x (slice_get_within xs i x h))
-
-some_below : {X : Type 0} (xs : List X) (i : ℕ) → i < length xs → IsSome (slice_get xs i)
-some_below xs i less = let there = get_at xs i less in subst IsSome (sym there.1) refl
+all_get P xs i x every at = All-contains P xs x every (Contains-slice_get xs i x at)
 
 module _ {V : Type 0} (all : List (List V)) (t : ℕ) (xs : List V) (x : V) (there : slice_get all t ≡ Some xs) where
   -- one thread's list has one value more
@@ -47,13 +45,12 @@ module _ {V : Type 0} (all : List (List V)) (t : ℕ) (xs : List V) (x : V) (the
 
   grown_elsewhere : (u i : ℕ) → name t (length xs) ≢ name u i
       → value_in (slice_set all t (xs ++ x ∷ [])) u i ≡ value_in all u i
-  grown_elsewhere u i apart = by (u == t) refl
-    where
-      by : (b : Bool) → (u == t) ≡ b → value_in (slice_set all t (xs ++ x ∷ [])) u i ≡ value_in all u i
-      by true e =
-          rw (eqb-true u t e, longer_there, there)
-          (pushed_elsewhere xs x i (λ h. apart (ap₂ name (sym (eqb-true u t e)) (sym h))))
-      by false e = rw (get-set_other all t u (xs ++ x ∷ []) (λ h. true≢false (sym (eq-eqb u t h) ∙ e))) refl
+  grown_elsewhere u i apart =
+      elim (cases_eq u t) [
+        | inl same ↦ rw (same, longer_there, there)
+            (pushed_elsewhere xs x i (λ h. apart (ap₂ name (sym same) (sym h))))
+        | inr other ↦ rw (get-set_other all t u (xs ++ x ∷ []) other) refl
+      ]
 
 -- ---- a step that ended an operation
 module _ {Machine Memory Place Form : Type 0} (rules : Rules Memory Place) (program : Program)
@@ -62,6 +59,9 @@ module _ {Machine Memory Place Form : Type 0} (rules : Rules Memory Place) (prog
     (said : answered.said ≡ Some r) (fits : Fits rules program next)
     (last : All (λ (x : Thread Place). All (λ note. slice_index note t ≤ length thread.replies) x.notes)
     next.threads) where
+  abbrev IsUncounted : List ℕ → Type 0
+  IsUncounted note = slice_index note t ≤ length thread.replies
+
   abbrev ended : OpId
   ended = name t (length thread.replies)
 
@@ -74,25 +74,21 @@ module _ {Machine Memory Place Form : Type 0} (rules : Rules Memory Place) (prog
   -- the operation began, since each reply has its note
   note_there : length thread.replies < length answered.now.notes
   note_there =
-      let below : t < length next.threads = slice_get_within next.threads t answered.now at_now in
-      let count : length next.threads ≡ length program.threads = fits.thread_count in
-      let ops = get_at program.threads t (omega arith) in
-      let own : ThreadFits rules program next.memory ops.0 answered.now =
-      fits.threads t ops.0 answered.now ops.1 at_now in
-      let between : answered.now.place ≡ None = answered.place (rw said refl) in
-      let noted : length answered.now.replies + 0 ≡ length answered.now.notes = rw between at own.replies in
-      let pushed : answered.now.replies ≡ thread.replies ++ r ∷ [] = rw said at answered.replies in
-      let longer : length answered.now.replies ≡ length thread.replies + 1 =
-      rw pushed (length_push thread.replies r) in
-      omega arith
+      let below = slice_get_within next.threads t answered.now at_now in
+      let ops = get_at program.threads t (omega (arith, fits.thread_count)) in
+      let own = fits.threads t ops.0 answered.now ops.1 at_now in
+      let noted = rw (answered.place (rw said refl)) at own.replies in
+      let pushed = ap length (rw said at answered.replies) in
+      omega (arith, length_push thread.replies r)
 
   ended_began : IsBegun (history_of next) ended
   ended_began =
+      let note = get_at answered.now.notes (length thread.replies) note_there in
       rw (
         value_from_start t (length thread.replies) (notes_of next.threads),
         map-get (λ (x : Thread Place). x.notes) next.threads t answered.now at_now,
-      )
-      (some_below answered.now.notes (length thread.replies) note_there)
+        note.1,
+      ) refl
 
   -- and no note counts it
   none_after : (b : OpId) → EndedBefore (history_of next) ended b → ⊥
@@ -101,15 +97,10 @@ module _ {Machine Memory Place Form : Type 0} (rules : Rules Memory Place) (prog
       IsSomeAnd-value _ (λ note. length thread.replies < slice_index note t)
       (rw (value_from_start b.thread b.index (notes_of next.threads)) at before) in
       option_and_then_some (λ (ns : List (List ℕ)). slice_get ns b.index)
-      (slice_get (notes_of next.threads) b.thread) note.0 note.1
-      (λ (ns : List (List ℕ)) (own : slice_get (notes_of next.threads) b.thread ≡ Some ns)
-      (here : slice_get ns b.index ≡ Some note.0).
+      (slice_get (notes_of next.threads) b.thread) note.0 note.1 (λ ns own here.
       let of = get-map (λ (x : Thread Place). x.notes) next.threads b.thread ns own in
-      let bounded : slice_index note.0 t ≤ length thread.replies =
-      all_get (λ note. slice_index note t ≤ length thread.replies) of.0.notes b.index note.0
-      (all_get (λ (x : Thread Place). All (λ note. slice_index note t ≤ length thread.replies) x.notes) next.threads
-      b.thread of.0 last of.1) (rw (← of.2) here) in
-      omega (arith, note.2))
+      let notes = all_get (λ (x : Thread Place). All IsUncounted x.notes) next.threads b.thread of.0 last of.1 in
+      omega (arith, note.2, all_get IsUncounted of.0.notes b.index note.0 notes (rw (← of.2) here)))
 
   has_replied : HasReplied (history_of state) (history_of next) ended r
   has_replied =
@@ -119,11 +110,8 @@ module _ {Machine Memory Place Form : Type 0} (rules : Rules Memory Place) (prog
         replied = rw (value_from_start t (length thread.replies) (replies_of next.threads), replies_longer)
             (grown_here (replies_of state.threads) t thread.replies r own);
         others = λ b apart.
-            rw (
-              value_from_start b.thread b.index (replies_of next.threads),
-              value_from_start b.thread b.index (replies_of state.threads),
-              replies_longer,
-            )
+            let value = value_from_start b.thread b.index in
+            rw (value (replies_of next.threads), value (replies_of state.threads), replies_longer)
             (grown_elsewhere (replies_of state.threads) t thread.replies r own b.thread b.index apart);
         begun = notes_still state.threads next.threads t thread there answered;
         last = none_after;
@@ -134,15 +122,13 @@ pub step_replied : {Machine Memory Place Form : Type 0} (rules : Rules Memory Pl
     (state next : State Machine Memory Place Form) (t : ℕ) → step rules program state t ≡ Some next
     → Fits rules program next → (a b : Thread Place) → slice_get state.threads t ≡ Some a
     → slice_get next.threads t ≡ Some b → (ended : OpId) (r : Bool) → ended.thread ≡ t
-    → ended.index ≡ length a.replies
-    → slice_get b.replies (length a.replies) ≡ Some r
+    → ended.index ≡ length a.replies → slice_get b.replies (length a.replies) ≡ Some r
     → All (λ (x : Thread Place). All (λ note. slice_index note ended.thread ≤ ended.index) x.notes) next.threads
     → HasReplied (history_of state) (history_of next) ended r
 step_replied rules program state next t leads fits a b at_a at_b ended r thread index answer last =
     let s = step_gone rules program state next t leads in
-    let same : s.0 ≡ a = same_Some _ _ (sym s.1 ∙ at_a) in
-    let now : s.2.now ≡ b =
-    same_Some _ _ (sym (now_there state.threads next.threads t s.0 s.1 s.2) ∙ at_b) in
+    let same : s.0 ≡ a = cc (s.1, at_a) in
+    let now : s.2.now ≡ b = cc (now_there state.threads next.threads t s.0 s.1 s.2, at_b) in
     let said : s.2.said ≡ Some r =
     sym (stated state.threads next.threads t s.0 s.1 s.2) ∙ rw (now, same) answer in
     let named : ended ≡ name t (length s.0.replies) = rw (same, ← index, ← thread) refl in

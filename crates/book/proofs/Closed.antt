@@ -2,10 +2,10 @@
 use Rattle.std.proofs.Common.{◌≡◌, ℕ, Bool, true, not, Some, None, List, position}
 use Rattle.replay.specs.declared.finding.Finding.{Finding}
 use Rattle.replay.specs.Schedule.{AreOneBy, StepMachine, IsMachine, Merges}
-use Rattle.book.specs.Entries.{Entry, At, is_expanded, states}
+use Rattle.book.specs.Entries.{Entry, is_expanded, states}
 use Rattle.book.specs.Law.{IsLawful}
 use Rattle.replay.specs.Findings.{IsSound}
-use Rattle.replay.specs.Closed.{IsAlikeToOneOf, AreClosed, HoldsForEvery}
+use Rattle.replay.specs.Closed.{AreClosed, HoldsForEvery}
 use Rattle.replay.specs.Laws.Schedules.{covered}
 use Rattle.book.specs.Closed.{IsWorkedOut, AreSound}
 use Rattle.book.proofs.Marks.{expanded_from, not_expanded_from}
@@ -25,31 +25,26 @@ left_out {S} es i first out =
     let f = first_passes (λ (r : Entry S). not (is_expanded r.mark)) es i first in
     not_expanded_from f.0.mark f.2 (out i f.0 f.1)
 
-module _ {S : Type 0} (m : StepMachine S) (same : S → S → Bool) (right : S → Finding → Type 0)
-    (machine : IsMachine m) (merges : Merges m same)
-    (alike : (a b : S) → m.Fits a → m.Fits b → same a b ≡ true → IsSound right a → IsSound right b)
-    (es : List (Entry S)) (law : IsLawful m (AreOneBy same) right es) where
-  -- an entry that stands for a state is alike to it
-  among_states : (s : S) → (i : ℕ) × (e : Entry S) × At es i e × (same e.state s ≡ true)
-      → IsAlikeToOneOf (λ a b. same a b ≡ true) (states es) s
-  among_states s stood = (stood.0, stood.1.state, states-at es stood.0 stood.1 stood.2, stood.3)
+-- the states of a book with no entry left are closed
+pub worked_out_closed : {S : Type 0} (m : StepMachine S) (Same : S → S → Type 0) (right : S → Finding → Type 0)
+    (es : List (Entry S)) → IsLawful m Same right es → Same m.start m.start → IsWorkedOut es
+    → AreClosed m Same (states es)
+worked_out_closed m Same right es law itself out = record {
+  fit = (λ i s at. let e = at-states es i s at in rw (← e.2) (law.fit i e.0 e.1));
+  start = (0, law.start.0.state, states-at es 0 law.start.0 law.start.1, rw law.start.2 itself);
+  steps = (λ i t s r at step.
+      let e = at-states es i s at in
+      let stood = law.stands i t e.0 r e.1 (out i e.0 e.1) (rw e.2 step) in
+      (stood.0, stood.1.state, states-at es stood.0 stood.1 stood.2, stood.3));
+}
 
-  -- the states of a book with no entry left are closed
-  pub worked_out_closed : IsWorkedOut es → AreClosed m (λ a b. same a b ≡ true) (states es)
-  worked_out_closed out = record {
-    fit = (λ i s at. let e = at-states es i s at in rw (← e.2) (law.fit i e.0 e.1));
-    start = among_states m.start (0, law.start.0, law.start.1, rw law.start.2 (merges.itself m.start));
-    steps = (λ i t s r at step.
-        let e = at-states es i s at in
-        let stood = law.stands i t e.0 r e.1 (out i e.0 e.1) (rw e.2 step) in
-        among_states r (stood.0, stood.1, stood.2, stood.3));
-  }
-
-  -- where each of them is sound, every schedule of any length reaches a sound state
-  pub closed_holds : IsWorkedOut es → AreSound es → HoldsForEvery m right
-  closed_holds out sound c s leads =
-      let w = covered m machine (λ a b. same a b ≡ true) merges.joined merges.steps_alike (states es)
-      (worked_out_closed out) c s leads in
-      let e = at-states es w.0 w.1 w.2 in
-      alike e.0.state s (law.fit w.0 e.0 e.1) (fits_after m machine c s leads) (rw e.2 w.3)
-      (e.0.finding, law.findings w.0 e.0 e.1, sound w.0 e.0 e.1)
+-- where each of them is sound, every schedule of any length reaches a sound state
+pub closed_holds : {S : Type 0} (m : StepMachine S) (same : S → S → Bool) (right : S → Finding → Type 0) → IsMachine m
+    → Merges m same → ((a b : S) → m.Fits a → m.Fits b → same a b ≡ true → IsSound right a → IsSound right b)
+    → (es : List (Entry S)) → IsLawful m (AreOneBy same) right es → IsWorkedOut es → AreSound es → HoldsForEvery m right
+closed_holds m same right machine merges alike es law out sound c s leads =
+    let w = covered m machine (AreOneBy same) merges.joined merges.steps_alike (states es)
+    (worked_out_closed m (AreOneBy same) right es law (merges.itself m.start) out) c s leads in
+    let e = at-states es w.0 w.1 w.2 in
+    alike e.0.state s (law.fit w.0 e.0 e.1) (fits_after m machine c s leads) (rw e.2 w.3)
+    (e.0.finding, law.findings w.0 e.0 e.1, sound w.0 e.0 e.1)

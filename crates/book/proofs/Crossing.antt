@@ -53,47 +53,39 @@ module _ (S : RattleType) (s : IsSend S) (s' : IsSync S) where
   table_sync : IsSync (Table.the_row S)
   table_sync = search (row_sync, label_sync, sendable, crosses) depth 30
 
-module _ (M Mem Loc Form : RattleType) (m : IsSend M) (mem : IsSend Mem) (loc : IsSend Loc) (form : IsSend Form)
-    (m' : IsSync M) (mem' : IsSync Mem) (loc' : IsSync Loc) (form' : IsSync Form) where
-  state_send : IsSend (State.the_row M Mem Loc Form)
-  state_send = search (sendable, crosses) depth 30
+module _ (M Mem Loc Form : RattleType) where
+  module _ (m : IsSend M) (mem : IsSend Mem) (loc : IsSend Loc) (form : IsSend Form) (m' : IsSync M) (mem' : IsSync Mem)
+      (loc' : IsSync Loc) (form' : IsSync Form) where
+    state_send : IsSend (State.the_row M Mem Loc Form)
+    state_send = search (sendable, crosses) depth 30
 
-  undo_send : IsSend (Undo.the_field M Mem Loc Form).row
-  undo_send = search (sendable, crosses) depth 30
+    state_sync : IsSync (State.the_row M Mem Loc Form)
+    state_sync = search (sendable, crosses) depth 30
 
-  state_sync : IsSync (State.the_row M Mem Loc Form)
-  state_sync = search (sendable, crosses) depth 30
+  module _ (e : encode.Ghosts M.Denot Mem.Denot Loc.Denot Form.Denot)
+      (g : machine.Ghosts M.Denot Mem.Denot Loc.Denot Form.Denot)
+      (mp : partial.Ghosts M.Denot) (ap : partial.Ghosts Mem.Denot) (ah : hash.Ghosts Mem.Denot)
+      (lp : partial.Ghosts Loc.Denot) (lh : hash.Ghosts Loc.Denot)
+      (fp : partial.Ghosts Form.Denot) (fh : hash.Ghosts Form.Denot) where
+    scratch_from : IsSend (Undo.the_field M Mem Loc Form).row
+        → IsSend (Decoded.the_row M Mem Loc Form e g mp ap ah lp lh fp fh)
+        → IsSend (Scratch.the_row M Mem Loc Form e g mp ap ah lp lh fp fh)
+    scratch_from undo decoded =
+        let T = Scratch.the_type M Mem Loc Form e g mp ap ah lp lh fp fh in
+        recorded_send _ _ _ T.to_one
+        (struct_send (shape T)
+        (buffer_send, (undo, (search (decoded, sendable, crosses) depth 30, (recycled_send, tt)))))
 
-module _ (M Mem Loc Form : RattleType) (e : encode.Ghosts M.Denot Mem.Denot Loc.Denot Form.Denot)
-    (g : machine.Ghosts M.Denot Mem.Denot Loc.Denot Form.Denot)
-    (mp : partial.Ghosts M.Denot) (ap : partial.Ghosts Mem.Denot) (ah : hash.Ghosts Mem.Denot)
-    (lp : partial.Ghosts Loc.Denot) (lh : hash.Ghosts Loc.Denot)
-    (fp : partial.Ghosts Form.Denot) (fh : hash.Ghosts Form.Denot)
-    (undo : IsSend (Undo.the_field M Mem Loc Form).row)
-    (decoded : IsSend (Decoded.the_row M Mem Loc Form e g mp ap ah lp lh fp fh)) where
-  scratch_from : IsSend (Scratch.the_row M Mem Loc Form e g mp ap ah lp lh fp fh)
-  scratch_from =
-      let T = Scratch.the_type M Mem Loc Form e g mp ap ah lp lh fp fh in
-      recorded_send _ _ _ T.to_one
-      (struct_send (shape T)
-      (buffer_send, (undo, (search (decoded, sendable, crosses) depth 30, (recycled_send, tt)))))
+    module _ (m : IsSend M) (mem : IsSend Mem) (loc : IsSend Loc) (form : IsSend Form) (m' : IsSync M)
+        (mem' : IsSync Mem) (loc' : IsSync Loc) (form' : IsSync Form) where
+      decoded_send : IsSend (Decoded.the_row M Mem Loc Form e g mp ap ah lp lh fp fh)
+      decoded_send = search (state_send, sendable, crosses) depth 30
 
-module _ (M Mem Loc Form : RattleType) (e : encode.Ghosts M.Denot Mem.Denot Loc.Denot Form.Denot)
-    (g : machine.Ghosts M.Denot Mem.Denot Loc.Denot Form.Denot)
-    (mp : partial.Ghosts M.Denot) (ap : partial.Ghosts Mem.Denot) (ah : hash.Ghosts Mem.Denot)
-    (lp : partial.Ghosts Loc.Denot) (lh : hash.Ghosts Loc.Denot)
-    (fp : partial.Ghosts Form.Denot) (fh : hash.Ghosts Form.Denot)
-    (m : IsSend M) (mem : IsSend Mem) (loc : IsSend Loc) (form : IsSend Form)
-    (m' : IsSync M) (mem' : IsSync Mem) (loc' : IsSync Loc) (form' : IsSync Form) where
-  decoded_send : IsSend (Decoded.the_row M Mem Loc Form e g mp ap ah lp lh fp fh)
-  decoded_send = search (state_send, sendable, crosses) depth 30
+      pub scratch_send : IsSend (Scratch.the_row M Mem Loc Form e g mp ap ah lp lh fp fh)
+      scratch_send = scratch_from (search (sendable, crosses) depth 30) decoded_send
 
-  pub scratch_send : IsSend (Scratch.the_row M Mem Loc Form e g mp ap ah lp lh fp fh)
-  scratch_send = scratch_from M Mem Loc Form e g mp ap ah lp lh fp fh
-      (undo_send M Mem Loc Form m mem loc form m' mem' loc' form') decoded_send
+      pub book_send : IsSend (Book.the_row M Mem Loc Form e g mp ap ah lp lh fp fh)
+      book_send = search (table_send, program_send, state_send, state_sync, sendable, crosses) depth 30
 
-  pub book_send : IsSend (Book.the_row M Mem Loc Form e g mp ap ah lp lh fp fh)
-  book_send = search (table_send, program_send, state_send, state_sync, sendable, crosses) depth 30
-
-  pub book_sync : IsSync (Book.the_row M Mem Loc Form e g mp ap ah lp lh fp fh)
-  book_sync = search (table_sync, program_sync, state_send, state_sync, sendable, crosses) depth 30
+      pub book_sync : IsSync (Book.the_row M Mem Loc Form e g mp ap ah lp lh fp fh)
+      book_sync = search (table_sync, program_sync, state_send, state_sync, sendable, crosses) depth 30

@@ -1,14 +1,11 @@
 -- What is taken out of a list, one element after the other, is the list.
-use Rattle.std.proofs.Common.{◌≡◌, ℕ, ◌-◌, List, [], ◌∷◌, ◌++◌, Option, None, length, take, refl, sym, ap, subst}
-use Rattle.std.proofs.Common.{append-nil, arith, ◌∙◌}
+use Rattle.std.proofs.Common.{◌≡◌, ℕ, ◌-◌, List, [], ◌∷◌, ◌++◌, Option, None, length, ap}
+use Rattle.std.proofs.Common.{append-nil, arith, sym, ◌∙◌}
 use Rattle.std.specs.Iterator.{Yields}
 use Rattle.std.specs.List.{slice_range}
 use Rattle.std.specs.Vec.Iter.{drain_items, drain_steps}
 use Rattle.std.specs.declared.vec.Drain.{Drain}
-
-take_all : {A : Type 0} (xs : List A) → take (length xs) xs ≡ xs
-take_all [] = refl
-take_all (x ∷ xs) = ap (λ ys. x ∷ ys) (take_all xs)
+use Rattle.std.proofs.lemmas.List.{take_all}
 
 module _ {A Z : Type 0} where
   front : (xs : List A) (s t : Drain A Z) → Yields (drain_steps {X = A} {Z = Z}) s xs t
@@ -20,7 +17,5 @@ module _ {A Z : Type 0} where
       → drain_items s ≡ slice_range all 0 n → Yields (drain_steps {X = A} {Z = Z}) s xs t → r ≡ None
       → drain_steps t r u → xs ≡ all
   all_drained all xs n r s t u len items run none last =
-      let rest : drain_items t ≡ [] = (subst (λ o. drain_steps t o u) none last).0 in
-      let whole : n - 0 ≡ length all = omega arith in
-      sym (append-nil xs) ∙ ap (λ ys. xs ++ ys) (sym rest) ∙ sym (front xs s t run) ∙ items
-      ∙ ap (λ k. take k all) whole ∙ take_all all
+      let rest : drain_items t ≡ [] = (rw none at last).0 in
+      sym (rw (rest, append-nil xs) at (front xs s t run)) ∙ items ∙ take_all (n - 0) all (omega arith)

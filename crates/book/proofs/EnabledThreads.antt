@@ -1,15 +1,11 @@
 -- A thread that is enabled is among the enabled ones.
-use Rattle.std.proofs.Common.{◌≡◌, ℕ, zero, suc, ◌+◌, ◌<◌, Bool, true, Some, is_some, List, [], ◌∷◌, filter, refl}
+use Rattle.std.proofs.Common.{◌≡◌, ℕ, zero, suc, ◌+◌, Bool, true, Some, is_some, List, [], ◌∷◌, filter, refl}
 use Rattle.std.proofs.Common.{ap, ◌∙◌, arith, slice_get}
 use Rattle.std.specs.List.{range_with_len}
 use Rattle.std.proofs.lemmas.Bool.{cond_both}
+use Rattle.std.proofs.lemmas.List.FromFn.{get_or-range_with_len, length-range_with_len}
+use Rattle.std.proofs.lemmas.Option.{slice_get-get_or}
 use Rattle.replay.specs.Schedule.{StepMachine, IsMachine, enabled_threads}
-
-get-range : (a n t : ℕ) → t < n → slice_get (range_with_len a n) t ≡ Some (a + t)
-get-range a zero t h = absurd (omega arith)
-get-range a (suc n) zero h = let e : a + 0 ≡ a = omega arith in rw e refl
-get-range a (suc n) (suc t) h =
-    let e : a + suc t ≡ a + 1 + t = omega arith in rw e (get-range (a + 1) n t (omega arith))
 
 get-filter : {X : Type 0} (p : X → Bool) (xs : List X) (k : ℕ) (x : X) → slice_get xs k ≡ Some x → p x ≡ true
     → (j : ℕ) × (slice_get (filter p xs) j ≡ Some x)
@@ -25,6 +21,8 @@ get-filter {X} p (w ∷ xs) (suc k) x h passes =
 pub among_enabled : {S : Type 0} (m : StepMachine S) → IsMachine m → (s r : S) (t : ℕ) → m.step s t ≡ Some r
     → (j : ℕ) × (slice_get (enabled_threads m s) j ≡ Some t)
 among_enabled m machine s r t leads =
+    let less = machine.is_thread s r t leads in
+    let number : 0 + t ≡ t = omega arith in
     get-filter (λ (u : ℕ). is_some (m.step s u)) (range_with_len 0 m.threads) t t
-    (let e : 0 + t ≡ t = omega arith in get-range 0 m.threads t (machine.is_thread s r t leads) ∙ ap Some e)
-    (rw leads refl)
+    (slice_get-get_or (range_with_len 0 m.threads) t t (rw length-range_with_len less)
+    ∙ ap Some (get_or-range_with_len 0 m.threads t t less ∙ number)) (rw leads refl)

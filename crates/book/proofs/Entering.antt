@@ -1,8 +1,7 @@
 -- An expansion is entered.
 use Rattle.std.proofs.Common.{◌≡◌, ℕ, zero, suc, ◌+◌, ◌-◌, ◌^◌, ◌<◌, ◌≤◌, Bool, List, [], ◌∷◌, ◌++◌, length, map}
-use Rattle.std.proofs.Common.{refl, sym, ap, ◌∙◌, arith}
-use Rattle.std.proofs.Common.{length-append}
-use Rattle.std.proofs.lemmas.Bool.{cond_both}
+use Rattle.std.proofs.Common.{inl, inr, refl, sym, ap, ◌∙◌, arith, length-append}
+use Rattle.std.proofs.lemmas.Bool.{cases_Bool}
 use Rattle.std.proofs.Math.ListN.{length-map}
 use Rattle.std.proofs.lemmas.Option.{same_Some, slice_get_within}
 use Rattle.sched_program.specs.Program.{Program}
@@ -29,11 +28,11 @@ own_from book i e x p s r at state same_machine same_program same_state = record
 length-unknown : {S : Type 0} (same : S → S → Bool) (known : List S) (xs : List (Successor S))
     → length (unknown same known xs) ≤ length xs
 length-unknown same known [] = omega arith
-length-unknown {S} same known (x ∷ xs) =
-    cond_both (knows same known x.state) (unknown same known xs) (x ∷ unknown same (known ++ x.state ∷ []) xs)
-    (λ (ys : List (Successor S)). length ys ≤ suc (length xs))
-    (λ _. omega (arith, length-unknown same known xs))
-    (λ _. omega (arith, length-unknown same (known ++ x.state ∷ []) xs))
+length-unknown same known (x ∷ xs) =
+    elim (cases_Bool (knows same known x.state)) [
+      | inl is ↦ rw is (omega (arith, length-unknown same known xs))
+      | inr new ↦ rw new (omega (arith, length-unknown same (known ++ x.state ∷ []) xs))
+    ]
 
 with_mark-append : {S : Type 0} (es fs : List (Entry S)) (i : ℕ) (k : Mark) → i < length es
     → with_mark (es ++ fs) i k ≡ with_mark es i k ++ fs
@@ -42,33 +41,27 @@ with_mark-append (e ∷ es) fs zero k h = refl
 with_mark-append (e ∷ es) fs (suc i) k h = ap (λ xs. e ∷ xs) (with_mark-append es fs i k (omega arith))
 
 module _ {X S : Type 0} (m : StepMachine S) (same : S → S → Bool) (right : S → Finding → Type 0) (machine : IsMachine m)
-    (merges : Merges m same)
-    (b : Contents X S) (book : IsLawfulBook m (AreOneBy same) right b) (i : ℕ) (e : Entry S) (at : At b.entries i e)
-    (taken : e.mark ≡ Taken)
-    (xs : List (Successor S)) (expansion : IsExpansion m right e.state xs)
+    (merges : Merges m same) (b : Contents X S) (book : IsLawfulBook m (AreOneBy same) right b) (i : ℕ) (e : Entry S)
+    (at : At b.entries i e) (taken : e.mark ≡ Taken) (xs : List (Successor S))
+    (expansion : IsExpansion m right e.state xs)
     (appended : List (Entry S)) (is : appended ≡ b.entries ++ map (opened i) (unknown same (states b.entries) xs)) where
   pub length_appended : length appended ≡ length b.entries + length (unknown same (states b.entries) xs)
   length_appended = simp (is, length-append, length-map) refl
 
   -- so many are new
-  pub entered_is : (entered was now : ℕ) → entered ≡ now - was → was ≡ length b.entries
-      → now ≡ length appended
+  pub entered_is : (entered was now : ℕ) → entered ≡ now - was → was ≡ length b.entries → now ≡ length appended
       → entered ≡ length (unknown same (states b.entries) xs)
   entered_is entered was now p q r = omega (arith, length_appended)
 
   pub entered_within : (entered was now steps : ℕ) → entered ≡ now - was → was ≡ length b.entries
-      → now ≡ length appended
-      → steps ≡ length xs → entered ≤ steps
+      → now ≡ length appended → steps ≡ length xs → entered ≤ steps
   entered_within entered was now steps p q r u =
       omega (arith, entered_is entered was now p q r, length-unknown same (states b.entries) xs)
 
   -- the entry is taken still
   pub still_taken : IsTaken appended i
-  still_taken = (
-    e,
-    rw is (get-append_left b.entries (map (opened i) (unknown same (states b.entries) xs)) i e at),
-    taken,
-  )
+  still_taken =
+      (e, rw is (get-append_left b.entries (map (opened i) (unknown same (states b.entries) xs)) i e at), taken)
 
   pub entered_entries : (new : List (Entry S)) → new ≡ with_mark appended i Expanded
       → new ≡ with_successors same b.entries i xs
@@ -78,17 +71,8 @@ module _ {X S : Type 0} (m : StepMachine S) (same : S → S → Bool) (right : S
       (slice_get_within b.entries i e at)
 
   pub lawful_entered : (new : List (Entry S)) (entered met : ℕ) → new ≡ with_mark appended i Expanded
-      → entered ≡ length (unknown same (states b.entries) xs)
-      → entered + met ≡ length xs → length appended ≤ b.limit
-      → IsLawfulBook m (AreOneBy same) right
-      (record {
-        machine = b.machine;
-        program = b.program;
-        merge = b.merge;
-        limit = b.limit;
-        entries = new;
-        met = b.met + met;
-      })
+      → entered ≡ length (unknown same (states b.entries) xs) → entered + met ≡ length xs
+      → length appended ≤ b.limit → IsLawfulBook m (AreOneBy same) right (record b { entries = new; met = b.met + met })
   lawful_entered new entered met marked count each room =
       rw (entered_entries new marked)
       (entered_book m same right machine merges b book i e at taken xs expansion entered met (sym count) each

@@ -20,8 +20,7 @@ pub label_there : {S : Type 0} (label_of : S → List ℕ) (kept : Kept S) → A
     → (i : ℕ) (e : Entry S) → At kept.entries i e → (label : List ℕ) → slice_get kept.labels i ≡ Some label
     → label ≡ label_of e.state
 label_there {S} label_of kept known i e at label there =
-    same_Some label (label_of e.state)
-    (sym there ∙ (rw known (map-get (λ (x : Entry S). label_of x.state) kept.entries i e at)))
+    cc (there, known, map-get (λ (x : Entry S). label_of x.state) kept.entries i e at)
 
 -- an entry has one finding
 pub finding_there : {S : Type 0} (es : List (Entry S)) (i : ℕ) (d e : Entry S) → At es i d → At es i e
@@ -35,8 +34,7 @@ pub exact_label : {Machine Memory Place Form : Type 0} (own_code : Memory → Li
     → (i : ℕ) (e : Entry (State Machine Memory Place Form)) → At kept.entries i e
     → (label : List ℕ) → slice_get kept.labels i ≡ Some label → label ≡ state_code own_code e.state
 exact_label own_code form_code form_of merge exact kept known i e at label there =
-    label_there (label_by own_code form_code form_of merge) kept known i e at label there
-    ∙ ap (λ (m : Merge). label_by own_code form_code form_of m e.state) exact
+    rw exact at (label_there (label_by own_code form_code form_of merge) kept known i e at label there)
 
 -- an entry of a book, as it is handed out
 pub taken_of : {Machine Memory Place Form : Type 0} (rules : Machine → Rules Memory Place)

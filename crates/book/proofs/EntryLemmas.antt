@@ -1,10 +1,18 @@
 -- An entry by its number, in lists of entries that are made of others.
-use Rattle.std.proofs.Common.{◌≡◌, ◌≢◌, ℕ, zero, suc, ◌+◌, ◌⊎◌, inl, inr, List, [], ◌∷◌, length, refl, sym, ap}
-use Rattle.std.proofs.Common.{arith, count_by, cond}
+use Rattle.std.proofs.Common.{rules, ◌≡◌, ◌≢◌, ℕ, zero, suc, ◌+◌, ◌⊎◌, inl, inr, List, [], ◌∷◌, ◌++◌, length, refl, sym, ap}
+use Rattle.std.proofs.Common.{◌∙◌, ◌<◌, Some, slice_get, arith, count_by, cond, subst}
 use Rattle.std.proofs.lemmas.List.Sums.{sum_by-cons}
+use Rattle.std.proofs.lemmas.Option.{same_Some, slice_get_within}
+use Rattle.tree_machine.proofs.Lists.{get_at, get-append_cases}
 use Rattle.book.specs.declared.entry.Mark.{Mark}
 use Rattle.book.specs.declared.entry.Mark.TheVariants.{Open, Taken, Expanded}
 use Rattle.book.specs.Entries.{Entry, At, is_open, is_taken, is_expanded, with_mark}
+
+-- what stands in two lists in a row at a number of the first stands in the first
+pub get-front : {X : Type 0} (xs ys : List X) (i : ℕ) (x : X) → slice_get (xs ++ ys) i ≡ Some x → i < length xs
+    → slice_get xs i ≡ Some x
+get-front xs ys i x at less =
+    elim (get-append_cases xs ys i x at) [ inl l ↦ l | inr r ↦ absurd (omega (arith, r.1)) ]
 
 -- one entry and another that differ in the mark alone
 pub record SameButMark {S : Type 0} (e f : Entry S) : Type 0 where
@@ -12,81 +20,46 @@ pub record SameButMark {S : Type 0} (e f : Entry S) : Type 0 where
   pub finding : f.finding ≡ e.finding
   pub origin : f.origin ≡ e.origin
 
+-- e, which is entry j, has become f: it has the mark if it is entry i, and is as it was otherwise
+abbrev pub IsMarked : {S : Type 0} → ℕ → Mark → ℕ → Entry S → Entry S → Type 0
+IsMarked i k j e f = ((i ≡ j) × (f.mark ≡ k)) ⊎ ((i ≢ j) × (f ≡ e))
+
 module _ {S : Type 0} where
   pub length-with_mark : (es : List (Entry S)) (i : ℕ) (k : Mark) → length (with_mark es i k) ≡ length es
   length-with_mark [] i k = refl
   length-with_mark (e ∷ es) zero k = refl
   length-with_mark (e ∷ es) (suc i) k = ap suc (length-with_mark es i k)
 
-  -- an entry after the mark of i is changed is an entry from before, but for the mark if it is i
+  -- what is so of entry i with the mark, and of each other entry, is so of each after the mark of i is changed
+  pub each-with_mark : (P : ℕ → Entry S → Type 0) (es : List (Entry S)) (i : ℕ) (k : Mark)
+      → ((e : Entry S) → At es i e → P i (record e { mark = k }))
+      → ((j : ℕ) (e : Entry S) → At es j e → i ≢ j → P j e)
+      → (j : ℕ) (f : Entry S) → At (with_mark es i k) j f → P j f
+  each-with_mark P [] i k marked other j f at = absurd (cc)
+  each-with_mark P (e ∷ es) zero k marked other zero f at =
+      let same : record e { mark = k } ≡ f = cc in rw (← same) (marked e refl)
+  each-with_mark P (e ∷ es) zero k marked other (suc j) f at = other (suc j) f at (search rules)
+  each-with_mark P (e ∷ es) (suc i) k marked other zero f at = other zero f at (search rules)
+  each-with_mark P (e ∷ es) (suc i) k marked other (suc j) f at =
+      each-with_mark (λ n. P (suc n)) es i k marked (λ n d there apart. other (suc n) d there (λ q. apart (omega arith)))
+      j f at
+
+  -- so an entry afterwards is an entry from before, but for the mark if it is i
   pub at-with_mark : (es : List (Entry S)) (i : ℕ) (k : Mark) (j : ℕ) (f : Entry S) → At (with_mark es i k) j f
-      → (e : Entry S) × At es j e × SameButMark e f × (((i ≡ j) × (f.mark ≡ k)) ⊎ ((i ≢ j) × (f ≡ e)))
-  at-with_mark [] i k j f h = absurd (cc)
-  at-with_mark (e ∷ es) zero k zero f h =
-      let same : record e { mark = k } ≡ f = cc in (
-        e,
-        refl,
-        record {
-          state = sym (ap (λ (x : Entry S). x.state) same);
-          finding = sym (ap (λ (x : Entry S). x.finding) same);
-          origin = sym (ap (λ (x : Entry S). x.origin) same);
-        },
-        inl (refl, sym (ap (λ (x : Entry S). x.mark) same)),
-      )
-  at-with_mark (e ∷ es) zero k (suc j) f h = (
-    f,
-    h,
-    record { state = refl; finding = refl; origin = refl },
-    inr ((λ (n : zero ≡ suc j). absurd (omega arith)), refl),
-  )
-  at-with_mark (e ∷ es) (suc i) k zero f h = (
-    f,
-    h,
-    record { state = refl; finding = refl; origin = refl },
-    inr ((λ (n : suc i ≡ zero). absurd (omega arith)), refl),
-  )
-  at-with_mark (e ∷ es) (suc i) k (suc j) f h =
-      let r = at-with_mark es i k j f h in (
-        r.0,
-        r.1,
-        r.2,
-        elim r.3 [ inl l ↦ inl (ap suc l.0, l.1) | inr n ↦ inr ((λ (q : suc i ≡ suc j). n.0 (omega arith)), n.1) ],
-      )
+      → (e : Entry S) × At es j e × SameButMark e f × IsMarked i k j e f
+  at-with_mark es i k =
+      each-with_mark (λ j f. (e : Entry S) × At es j e × SameButMark e f × IsMarked i k j e f) es i k
+      (λ e at. (e, at, search rules, inl (refl, refl))) (λ j e at apart. (e, at, search rules, inr (apart, refl)))
 
   -- an entry from before is one afterwards, with the mark if it is i
   pub with_mark-at : (es : List (Entry S)) (i : ℕ) (k : Mark) (j : ℕ) (e : Entry S) → At es j e
-      → (f : Entry S) × At (with_mark es i k) j f × SameButMark e f × (((i ≡ j) × (f.mark ≡ k)) ⊎ ((i ≢ j) × (f ≡ e)))
-  with_mark-at [] i k j e h = absurd (cc)
-  with_mark-at (d ∷ es) zero k zero e h =
-      let same : d ≡ e = cc in (
-        record d { mark = k },
-        refl,
-        record {
-          state = ap (λ (x : Entry S). x.state) same;
-          finding = ap (λ (x : Entry S). x.finding) same;
-          origin = ap (λ (x : Entry S). x.origin) same;
-        },
-        inl (refl, refl),
-      )
-  with_mark-at (d ∷ es) zero k (suc j) e h = (
-    e,
-    h,
-    record { state = refl; finding = refl; origin = refl },
-    inr ((λ (n : zero ≡ suc j). absurd (omega arith)), refl),
-  )
-  with_mark-at (d ∷ es) (suc i) k zero e h = (
-    e,
-    h,
-    record { state = refl; finding = refl; origin = refl },
-    inr ((λ (n : suc i ≡ zero). absurd (omega arith)), refl),
-  )
-  with_mark-at (d ∷ es) (suc i) k (suc j) e h =
-      let r = with_mark-at es i k j e h in (
-        r.0,
-        r.1,
-        r.2,
-        elim r.3 [ inl l ↦ inl (ap suc l.0, l.1) | inr n ↦ inr ((λ (q : suc i ≡ suc j). n.0 (omega arith)), n.1) ],
-      )
+      → (f : Entry S) × At (with_mark es i k) j f × SameButMark e f × IsMarked i k j e f
+  with_mark-at es i k j e at =
+      let f = get_at (with_mark es i k) j (rw (length-with_mark es i k) (slice_get_within es j e at)) in
+      let o = at-with_mark es i k j f.0 f.1 in
+      let so =
+      subst (λ d. SameButMark d f.0 × IsMarked i k j d f.0) (same_Some o.0 e (sym o.1 ∙ at)) (o.2, o.3) in
+      (f.0, f.1, so.0, so.1)
 
 -- each entry is open, taken or expanded
 pub count_marks : {S : Type 0} (es : List (Entry S))

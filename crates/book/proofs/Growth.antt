@@ -1,72 +1,36 @@
 -- How a book grows by one expansion.
-use Rattle.std.proofs.Common.{◌≡◌, ◌≢◌, ℕ, zero, suc, ◌+◌, ◌<◌, ◌≤◌, inl, inr, Bool, false, not, cond, Option, Some}
-use Rattle.std.proofs.Common.{None, List, [], ◌∷◌, length, map, refl, sym, ap, ◌∙◌, arith, slice_get, position}
+use Rattle.std.proofs.Common.{◌≡◌, ℕ, zero, suc, ◌+◌, ◌<◌, ◌≤◌, inl, inr, Bool, false, not, cond, Option, Some}
+use Rattle.std.proofs.Common.{None, List, [], ◌∷◌, length, map, refl, ap, ◌∙◌, arith, slice_get, position}
 use Rattle.std.proofs.Common.{count_by}
-use Rattle.std.proofs.lemmas.Bool.{cases_lt}
 use Rattle.std.proofs.lemmas.List.Sums.{sum_by-cons, sum_by-append}
-use Rattle.std.proofs.lemmas.Option.{same_Some, slice_get_within}
+use Rattle.std.proofs.lemmas.Option.{slice_get_within}
 use Rattle.replay.specs.declared.finding.Finding.{Finding}
 use Rattle.book.specs.declared.entry.Mark.{Mark}
 use Rattle.book.specs.declared.entry.Mark.TheVariants.{Taken, Expanded}
 use Rattle.replay.specs.Schedule.{AreOneBy, StepMachine, IsMachine, Merges}
 use Rattle.book.specs.Entries.{Entry, Successor, Takes, At, IsNext, with_mark, opened, states}
 use Rattle.book.specs.Unknown.{with_successors, unknown}
-use Rattle.book.specs.Entries.{is_expanded}
+use Rattle.book.specs.Entries.{is_expanded, is_open}
 use Rattle.book.specs.Law.{IsLawful, IsExpansion}
-use Rattle.book.specs.Layers.{IsExpandedTo, IsLeftTo, NoneTaken, GrowsFrom, IsThrough}
-use Rattle.book.proofs.EntryLemmas.{at-with_mark, with_mark-at}
-use Rattle.book.proofs.Next.{first_passes, none_passes}
+use Rattle.book.specs.Layers.{IsLeftTo, NoneTaken, GrowsFrom, IsThrough}
+use Rattle.book.proofs.Closed.{worked_out}
+use Rattle.book.proofs.Coverage.{along_origins}
+use Rattle.book.proofs.Cursors.{first_is}
+use Rattle.book.proofs.EntryLemmas.{each-with_mark, with_mark-at}
+use Rattle.book.proofs.Next.{first_passes, next_from}
 use Rattle.book.proofs.Kept.{entered_grows, entered_rests}
-use Rattle.book.proofs.Marks.{expanded_from, not_expanded_from, open_between}
+use Rattle.book.proofs.Marks.{expanded_from, not_expanded_from, open_between, open_fails, open_passes}
 
 -- ---- which entries are left
 module _ {S : Type 0} (m : StepMachine S) (same : S → S → Bool) (right : S → Finding → Type 0) (machine : IsMachine m)
     (es : List (Entry S)) (law : IsLawful m (AreOneBy same) right es) where
-  -- an entry has no more steps than its number
-  bounded_by : (n i : ℕ) (e : Entry S) → At es i e → i < n → m.steps e.state ≤ i
-  bounded_by zero i e at less = absurd (omega arith)
-  bounded_by (suc n) i e at less =
-      elim (cases_lt 0 i) [
-        | inl pos ↦ (
-            let step = law.origins i e at pos in
-            omega (
-              arith,
-              step.earlier,
-              bounded_by n step.origin.parent step.parent step.entered,
-              machine.one_more step.parent.state e.state step.origin.thread step.step,
-            ))
-        | inr none ↦ (
-            let zero_at : i ≡ 0 = omega arith in
-            let q = same_Some law.start.0 e (sym law.start.1 ∙ (rw zero_at at at)) in
-            let z : m.steps e.state ≡ 0 = rw (← q, law.start.2) machine.from_zero in
-            omega arith)
-      ]
-
+  -- an entry has no more steps than its number, so it has fewer than there may be entries
   pub steps_bounded : (i n : ℕ) (e : Entry S) → At es i e → length es ≤ n → m.steps e.state < n
-  steps_bounded i n e at within = omega (arith, bounded_by (i + 1) i e at, slice_get_within es i e at)
-
-  pub all_expanded : (n : ℕ) → position (λ (r : Entry S). not (is_expanded r.mark)) es ≡ None
-      → IsExpandedTo m.steps es n
-  all_expanded n none i e at bounded =
-      expanded_from e.mark (none_passes (λ (r : Entry S). not (is_expanded r.mark)) es none i e at)
-
-  module _ (a : ℕ) (first : position (λ (r : Entry S). not (is_expanded r.mark)) es ≡ Some a) (d : Entry S)
-      (at_a : At es a d) where
-    first_is_left : d.mark ≢ Expanded
-    first_is_left =
-        let f = first_passes (λ (r : Entry S). not (is_expanded r.mark)) es a first in
-        rw (← same_Some f.0 d (sym f.1 ∙ at_a)) (not_expanded_from f.0.mark f.2)
-
-    pub is_left : (n : ℕ) → m.steps d.state ≤ n → IsLeftTo m.steps es n
-    is_left n bounded = (a, d, at_a, first_is_left, bounded)
-
-    pub none_left : (n : ℕ) → n < m.steps d.state → IsExpandedTo m.steps es n
-    none_left n less i e at bounded =
-        elim (cases_lt i a) [
-          | inl l ↦ expanded_from e.mark
-              ((first_passes (λ (r : Entry S). not (is_expanded r.mark)) es a first).3 i e l at)
-          | inr le ↦ absurd (omega (arith, law.ordered a i d e at_a at le))
-        ]
+  steps_bounded i n e at within =
+      let bounded =
+      along_origins m (AreOneBy same) right es law (λ i s. m.steps s ≤ i) (omega (arith, machine.from_zero))
+      (λ i j t r s earlier leads le. omega (arith, machine.one_more r s t leads)) i e at in
+      omega (arith, bounded, slice_get_within es i e at)
 
   -- where none is taken and some is left, one is next
   pub one_is_next : NoneTaken es → (n : ℕ) → IsLeftTo m.steps es n → ((i : ℕ) (e : Entry S) → IsNext m.steps es i e → ⊥)
@@ -74,60 +38,44 @@ module _ {S : Type 0} (m : StepMachine S) (same : S → S → Bool) (right : S �
   one_is_next none_taken n left no_next = go (position (λ (r : Entry S). not (is_expanded r.mark)) es) refl
     where
       go : (o : Option ℕ) → position (λ (r : Entry S). not (is_expanded r.mark)) es ≡ o → ⊥
-      go None h =
-          left.3 (expanded_from left.1.mark
-          (none_passes (λ (r : Entry S). not (is_expanded r.mark)) es h left.0 left.1 left.2))
+      go None h = left.3 (worked_out es h left.0 left.1 left.2)
       go (Some a) h =
           let f = first_passes (λ (r : Entry S). not (is_expanded r.mark)) es a h in
-          no_next a f.0 (record {
-            entry = f.1;
-            is_open = open_between f.0.mark (not_expanded_from f.0.mark f.2) (none_taken a f.0 f.1);
-            fewest = (λ j g at x. elim (cases_lt j a) [
-              | inl l ↦ absurd (x (expanded_from g.mark (f.3 j g l at)))
-              | inr le ↦ law.ordered a j f.0 g f.1 at le
-            ]);
-            lowest = (λ j g at o _. elim (cases_lt j a) [
-              | inl l ↦ absurd (let x = expanded_from g.mark (f.3 j g l at) in cc)
-              | inr le ↦ le
-            ]);
-          })
+          let opens = open_between f.0.mark (not_expanded_from f.0.mark f.2) (none_taken a f.0 f.1) in
+          let first_open =
+          first_is (λ (r : Entry S). is_open r.mark) es a f.0 f.1 (open_passes f.0.mark opens)
+          (λ j g at less. open_fails g.mark (λ o. cc (expanded_from g.mark (f.3 j g less at)))) in
+          no_next a f.0 (next_from m same right es law a a h first_open f.0 f.0 f.1 f.1 refl)
 
 -- ---- one is taken, and then its steps are entered
 module _ {S : Type 0} (m : StepMachine S) where
-  -- the next entry is not expanded
-  open_there : (es : List (Entry S)) (i : ℕ) (e : Entry S) → IsNext m.steps es i e → (j : ℕ) (d : Entry S) → At es j d
-      → i ≡ j → d.mark ≡ Expanded → ⊥
-  open_there es i e next j d at is done =
-      let q = same_Some d e (sym at ∙ (rw is at next.entry)) in let z = next.is_open in cc
+  -- entry j was there before, as f but for its mark, and f is expanded if that was
+  abbrev WasThere : List (Entry S) → ℕ → Entry S → Type 0
+  WasThere es j f = (d : Entry S) × At es j d × (f.state ≡ d.state) × (f.finding ≡ d.finding)
+      × (d.mark ≡ Expanded → f.mark ≡ Expanded)
+
+  taken_there : (es : List (Entry S)) (i : ℕ) (e : Entry S) → IsNext m.steps es i e → (j : ℕ) (f : Entry S)
+      → At (with_mark es i Taken) j f → WasThere es j f
+  taken_there es i e next =
+      each-with_mark (WasThere es) es i Taken
+      (λ d at. (d, at, refl, refl, λ x. cc (at, next.entry, next.is_open, x))) (λ j d at apart. (d, at, refl, refl, λ x. x))
 
   pub taken_grows : (es : List (Entry S)) (i : ℕ) (e : Entry S) → IsNext m.steps es i e
       → GrowsFrom m.steps es (with_mark es i Taken)
-  taken_grows es i e next j f at =
-      let o = at-with_mark es i Taken j f at in
-      inl (
-        o.0,
-        o.1,
-        o.2.state,
-        o.2.finding,
-        (λ x. elim o.3 [
-          | inl l ↦ absurd (open_there es i e next j o.0 o.1 l.0 x)
-          | inr r ↦ rw r.1 x
-        ]),
-      )
+  taken_grows es i e next j f at = inl (taken_there es i e next j f at)
 
   pub taken_alone : (es : List (Entry S)) (i : ℕ) → NoneTaken es → (j : ℕ) (f : Entry S) → At (with_mark es i Taken) j f
       → f.mark ≡ Taken → i ≡ j
-  taken_alone es i none j f at taken =
-      let o = at-with_mark es i Taken j f at in
-      elim o.3 [ inl l ↦ l.0 | inr r ↦ absurd (none j o.0 o.1 (rw r.1 at taken)) ]
+  taken_alone es i none =
+      each-with_mark (λ j f. f.mark ≡ Taken → i ≡ j) es i Taken (λ e at taken. refl)
+      (λ j e at apart taken. absurd (none j e at taken))
 
   pub taken_count : (es : List (Entry S)) (i : ℕ) (k : Mark) (e : Entry S) → At es i e → is_expanded e.mark ≡ false
       → count_by (λ (r : Entry S). is_expanded r.mark) (with_mark es i k)
       ≡ count_by (λ (r : Entry S). is_expanded r.mark) es + cond (is_expanded k) 1 0
   taken_count [] i k e at closed = absurd (cc)
   taken_count (d ∷ es) zero k e at closed =
-      let shut : is_expanded d.mark ≡ false = (let q : d ≡ e = cc in rw q closed) in
-      simp (sum_by-cons, shut) (omega arith)
+      let same : d ≡ e = cc in simp sum_by-cons (rw (same, closed) (omega arith))
   taken_count (d ∷ es) (suc i) k e at closed = simp sum_by-cons (omega (arith, taken_count es i k e at closed))
 
   opened_count : (i : ℕ) (us : List (Successor S))
@@ -143,17 +91,17 @@ module _ {S : Type 0} (m : StepMachine S) where
       simp sum_by-append
       (omega (arith, taken_count es i Expanded e at (rw taken refl), opened_count i (unknown same (states es) xs)))
 
-  pub grows_joined : (a b c : List (Entry S)) (k : ℕ) (e : Entry S) → GrowsFrom m.steps a b → GrowsFrom m.steps b c
-      → ((j : ℕ) (f : Entry S) → At b j f → f.mark ≢ Expanded → (i : ℕ) × (d : Entry S) × At a i d × (d.mark ≢ Expanded)
-      × (m.steps d.state ≡ m.steps f.state))
-      → GrowsFrom m.steps a c
-  grows_joined a b c k e first second back j f at =
-      elim (second j f at) [
-        | inl o ↦ elim (first j o.0 o.1) [
-          | inl p ↦ inl (p.0, p.1, o.2 ∙ p.2, o.3 ∙ p.3, (λ x. o.4 (p.4 x)))
-          | inr p ↦ inr (p.0, p.1, p.2, p.3, ap m.steps o.2 ∙ p.4)
-        ]
-        | inr o ↦ (let q = back o.0 o.1 o.2 o.3 in inr (q.0, q.1, q.2, q.3, o.4 ∙ ap (λ n. n + 1) (sym q.4)))
+  -- an entry is taken, and then the entries grow
+  taken_joined : (a c : List (Entry S)) (i : ℕ) (e : Entry S) → IsNext m.steps a i e
+      → GrowsFrom m.steps (with_mark a i Taken) c → GrowsFrom m.steps a c
+  taken_joined a c i e next grows j f at =
+      elim (grows j f at) [
+        | inl o ↦ (
+            let p = taken_there a i e next j o.0 o.1 in
+            inl (p.0, p.1, o.2 ∙ p.2, o.3 ∙ p.3, (λ x. o.4 (p.4 x))))
+        | inr o ↦ (
+            let p = taken_there a i e next o.0 o.1 o.2 in
+            inr (o.0, p.0, p.1, (λ x. o.3 (p.4 x)), o.4 ∙ ap (λ s. m.steps s + 1) p.2))
       ]
 
   -- what is through stays through
@@ -170,18 +118,6 @@ module _ {S : Type 0} (m : StepMachine S) where
     ]);
   }
 
-  taken_back : (es : List (Entry S)) (i : ℕ) (e : Entry S) → IsNext m.steps es i e → (j : ℕ) (f : Entry S)
-      → At (with_mark es i Taken) j f → f.mark ≢ Expanded
-      → (k : ℕ) × (d : Entry S) × At es k d × (d.mark ≢ Expanded) × (m.steps d.state ≡ m.steps f.state)
-  taken_back es i e next j f at left =
-      let o = at-with_mark es i Taken j f at in (
-        j,
-        o.0,
-        o.1,
-        (λ x. elim o.3 [ inl l ↦ open_there es i e next j o.0 o.1 l.0 x | inr r ↦ left (rw r.1 x) ]),
-        ap m.steps (sym o.2.state),
-      )
-
 -- one step of the exploration: an entry is taken, and its expansion entered
 pub record IsAdvance {S : Type 0} (steps : S → ℕ) (old new : List (Entry S)) : Type 0 where
   pub grows : GrowsFrom steps old new
@@ -195,14 +131,11 @@ module _ {S : Type 0} (m : StepMachine S) (same : S → S → Bool) (right : S �
       → At b i d → d.mark ≡ Taken → IsExpansion m right d.state xs → c ≡ with_successors same b i xs → NoneTaken a
       → IsAdvance m.steps a c
   advances a b c i s d xs takes law at taken expansion is none =
-      let back : (j : ℕ) (f : Entry S) → At b j f → f.mark ≢ Expanded → (k : ℕ) × (e : Entry S) × At a k e
-      × (e.mark ≢ Expanded) × (m.steps e.state ≡ m.steps f.state) =
-      rw takes.after (taken_back m a i takes.entry takes.next) in
-      let alone : (j : ℕ) (f : Entry S) → At b j f → f.mark ≡ Taken → i ≡ j = rw takes.after (taken_alone m a i none) in
+      let alone = rw (← takes.after) at (taken_alone m a i none) in
       let counted = taken_count m a i Taken takes.entry takes.next.entry (ap is_expanded takes.next.is_open) in
       rw is (record {
-        grows = grows_joined m a b _ i d (rw takes.after (taken_grows m a i takes.entry takes.next))
-            (entered_grows m same right machine merges b law i d at taken xs expansion) back;
+        grows = taken_joined m a _ i takes.entry takes.next
+            (rw (← takes.after) (entered_grows m same right machine merges b law i d at taken xs expansion));
         none_taken = entered_rests m same right machine merges b law i d at taken xs expansion alone;
         more = entered_count m same b i d xs at taken ∙ (rw takes.after (omega (arith, counted)));
       })
@@ -215,6 +148,5 @@ taken_is steps a b i s takes =
       w.0,
       ap (λ es. slice_get es i) takes.after ∙ w.1,
       elim w.3 [ inl l ↦ l.1 | inr r ↦ absurd (r.0 refl) ],
-      w.2.state
-          ∙ takes.state,
+      w.2.state ∙ takes.state,
     )

@@ -29,7 +29,7 @@ use Rattle.book.specs.Closed.{AreSound}
 use Rattle.book.specs.Entries.{Entry, At}
 use Rattle.replay.specs.Findings.{machine_of, IsFindingOf, is_sound}
 use Rattle.book.specs.Law.{IsLawful}
-use Rattle.replay.specs.Schedule.{AreOneBy, IsMachine}
+use Rattle.replay.specs.Schedule.{IsMachine}
 use Rattle.book.specs.BookFile.Writing.{FindsOrder, IsLineOf, AreLinesOf}
 use Rattle.book.specs.BookFile.Written.{AreWritable, IsFileOf}
 use Rattle.book.proofs.Next.{first_passes, none_passes}
@@ -52,19 +52,16 @@ module _ {Machine Memory Place Form : Type 0} (rules : Rules Memory Place) (prog
   -- a sound finding has an order with such names
   found_names : (s : State Machine Memory Place Form) (f : Finding) → IsFindingOf rules program s f → is_sound f ≡ true
       → (order : List OpId) × FindsOrder f order × All IsName order
-  found_names s found.Astray right sound = absurd (true≢false (sym sound))
-  found_names s found.Order right sound = absurd (true≢false (sym sound))
-  found_names s found.History right sound = absurd (true≢false (sym sound))
   found_names s (found.Sound linearization) right sound =
       (linearization, refl, given_names program limits (history_of s) _ linearization right.2.replies)
+  found_names s _ right sound = absurd (true≢false (sym sound))
 
-  pub writable : (same : State Machine Memory Place Form → State Machine Memory Place Form → _)
+  pub writable : (Same : State Machine Memory Place Form → State Machine Memory Place Form → Type 0)
       → IsMachine (machine_of {Machine = Machine} {Form = Form} rules program)
       → (es : List (Entry (State Machine Memory Place Form)))
-      → IsLawful (machine_of rules program) (AreOneBy same) (IsFindingOf rules program) es → length es ≤ 2000000
-      → AreSound es
+      → IsLawful (machine_of rules program) Same (IsFindingOf rules program) es → length es ≤ 2000000 → AreSound es
       → AreWritable es
-  writable same machine es law bounded sound i e at some =
+  writable Same machine es law bounded sound i e at some =
       let from = law.origins i e at some in
       let named = found_names e.state e.finding (law.findings i e at) (sound i e at) in (
         record { parent = from.origin.parent; thread = from.origin.thread; order = named.0 },
@@ -82,8 +79,7 @@ module _ {Machine Memory Place Form : Type 0} (rules : Rules Memory Place) (prog
 
 -- one more line
 pub lines_push : {S : Type 0} (es : List (Entry S)) (lines : List BookLine) (e : Entry S) (line : BookLine)
-    → 1 ≤ length es
-    → AreLinesOf es lines → IsLineOf e.origin e.finding line
+    → 1 ≤ length es → AreLinesOf es lines → IsLineOf e.origin e.finding line
     → AreLinesOf (es ++ e ∷ []) (lines ++ line ∷ [])
 lines_push [] lines e line some are is = absurd (omega arith)
 lines_push {S} (start ∷ es) lines e line some are is =
@@ -108,14 +104,13 @@ pub written_next : {S : Type 0} (count : ℕ) (es : List (Entry S)) (i : ℕ) (e
     (text more : List ℕ) → At es i e → 0 < i → IsLineOf e.origin e.finding line → IsProper line
     → more ≡ text ++ ended (text_of line ∷ []) → HasWritten count (take i es) text
     → HasWritten count (take (i + 1) es) more
-written_next {S} count es i e line text more at some is proper added so =
+written_next count es i e line text more at some is proper added so =
     let within : i < length es = slice_get_within es i e at in
-    let longer : take (i + 1) es ≡ take i es ++ e ∷ [] =
-    take_more es i e within ∙ ap (λ x. take i es ++ x ∷ []) (get_or_from_slice_get es i e e at) in
-    let taken : length (take i es) ≡ i = length-take-le i es (omega arith) in
+    let longer = rw (get_or_from_slice_get es i e e at) at (take_more es i e within) in
     record {
       lines = so.lines ++ line ∷ [];
-      of_entries = rw longer (lines_push (take i es) so.lines e line (omega arith) so.of_entries is);
+      of_entries = rw longer (lines_push (take i es) so.lines e line
+          (omega (arith, length-take-le i es (omega arith))) so.of_entries is);
       proper = All-push IsProper so.lines line so.proper proper;
       whole = rw (added, so.whole) (sym (written_push count so.lines line));
     }

@@ -1,6 +1,6 @@
 -- The lines that a closed and sound book writes pass.
-use Rattle.std.proofs.Common.{rules, ◌≡◌, ℕ, zero, suc, ◌+◌, ◌≤◌, Bool, true, None, Some, List, [], ◌∷◌, ◌++◌}
-use Rattle.std.proofs.Common.{length, map, replicate, refl, sym, ap, ◌∙◌, arith, slice_get, append_assoc}
+use Rattle.std.proofs.Common.{rules, ◌≡◌, ℕ, zero, suc, ◌+◌, ◌≤◌, true, None, Some, List, [], ◌∷◌, ◌++◌}
+use Rattle.std.proofs.Common.{length, map, replicate, refl, sym, ap, ◌∙◌, arith, append_assoc, add-zero}
 use Rattle.std.proofs.Common.{append-nil}
 use Rattle.std.specs.List.{AllZip}
 use Rattle.std.proofs.lemmas.Bool.{true≢false}
@@ -10,35 +10,31 @@ use Rattle.sched_program.specs.declared.operation.OpId.{OpId}
 use Rattle.tree_machine.specs.Rules.{Rules}
 use Rattle.tree_machine.specs.Alike.{AreStatesAlike}
 use Rattle.tree_machine.specs.History.{all_named, history_of}
-use Rattle.tree_machine.specs.Step.{start, Fits}
+use Rattle.tree_machine.specs.Step.{start}
 use Rattle.tree_machine.specs.declared.state.State.{State}
 use Rattle.lin.specs.Linearization.{IsLinearization}
-use Rattle.tree_machine.proofs.Lists.{get-append_left, get-append_right, get_at}
+use Rattle.tree_machine.proofs.Lists.{get-append_right}
+use Rattle.book.proofs.EntryLemmas.{get-front}
 use Rattle.replay.specs.declared.finding.Finding.{Finding}
 use Rattle.replay.specs.declared.finding.Finding.TheVariants as found
 use Rattle.book.specs.Entries.{Entry, Contents, At, states}
 use Rattle.book.specs.Law.{IsLawful}
-use Rattle.replay.specs.Findings.{machine_of, IsFindingOf, is_sound, IsSound}
-use Rattle.replay.specs.Schedule.{AreOneBy, IsMachine, Merges}
+use Rattle.replay.specs.Findings.{machine_of, IsFindingOf, is_sound}
 use Rattle.book.proofs.Closed.{worked_out_closed}
 use Rattle.replay.specs.Closed.{AreClosed}
-use Rattle.book.specs.Closed.{IsWorkedOut, IsClosed, AreSound}
+use Rattle.book.specs.Closed.{IsClosed, AreSound}
 use Rattle.book.specs.Books.{CountsAsOne, machine_in, right_in, IsLawfulIn}
-use Rattle.book.proofs.Agreeing.{Agree, book_back}
 use Rattle.book.proofs.Unknown.{states-at}
 use Rattle.replay.specs.declared.file.line.BookLine.{BookLine}
 use Rattle.replay.specs.BookFile.Replays.{IsWell, IsShown, Tells, Continues}
 use Rattle.replay.specs.BookFile.Checks.{Pass}
 use Rattle.book.specs.BookFile.Writing.{FindsOrder, IsLineOf, AreLinesOf}
 
--- nothing began in threads that began nothing
-none_named : {A : Type 0} (n t : ℕ) → all_named {A = A} t (replicate n []) ≡ []
-none_named zero t = refl
-none_named (suc n) t = none_named n (t + 1)
-
-map-replicate : {X Y : Type 0} (f : X → Y) (n : ℕ) (x : X) → map f (replicate n x) ≡ replicate n (f x)
-map-replicate f zero x = refl
-map-replicate f (suc n) x = ap (λ xs. f x ∷ xs) (map-replicate f n x)
+-- threads that began nothing have no names
+none_named : {X A : Type 0} (f : X → List A) (n : ℕ) (x : X) → f x ≡ [] → (t : ℕ)
+    → all_named t (map f (replicate n x)) ≡ []
+none_named f zero x none t = refl
+none_named f (suc n) x none t = rw none (none_named f n x none (t + 1))
 
 -- the empty list explains the history of nothing
 none_explained : (program : Program) → IsLinearization program (record { begun = []; finished = [] }) []
@@ -50,132 +46,85 @@ none_explained program = record {
   replies = tt;
 }
 
-start_explained : (Machine Form : Type 0) {Memory Place : Type 0} (rules : Rules Memory Place) (program : Program)
-    → IsLinearization program (history_of (start {Machine = Machine} {Form = Form} rules program)) []
-start_explained Machine Form rules program = simp (map-replicate, none_named) (none_explained program)
+module _ (Machine Form : Type 0) {Memory Place : Type 0} (rules : Rules Memory Place) (program : Program) where
+  abbrev S : Type 0
+  S = State Machine Memory Place Form
 
-module _ {Machine Memory Place Form : Type 0} (rules : Rules Memory Place) (program : Program) where
+  start_explained : IsLinearization program (history_of (start {Machine = Machine} {Form = Form} rules program)) []
+  start_explained = simp none_named (none_explained program)
+
   -- the linearization that was found of a state shows it
-  found_shown : (s : State Machine Memory Place Form) (f : Finding) (order : List OpId) → IsFindingOf rules program s f
-      → FindsOrder f order → IsShown rules program s order
-  found_shown s found.Astray order right finds = absurd finds
-  found_shown s found.Order order right finds = absurd finds
-  found_shown s found.History order right finds = absurd finds
-  found_shown s (found.Sound linearization) order right finds =
-      ((right.0, right.1), rw finds at right.2)
+  found_shown : (s : S) (f : Finding) (order : List OpId) → IsFindingOf rules program s f → FindsOrder f order
+      → IsShown rules program s order
+  found_shown s (found.Sound linearization) order right finds = ((right.0, right.1), rw finds at right.2)
+  found_shown s _ order right finds = absurd finds
 
-  sound_well : (s : State Machine Memory Place Form) (f : Finding) → IsFindingOf rules program s f → is_sound f ≡ true
-      → IsWell rules program s
-  sound_well s found.Astray right sound = absurd (true≢false (sym sound))
-  sound_well s found.Order right sound = absurd (true≢false (sym sound))
-  sound_well s found.History right sound = absurd (true≢false (sym sound))
+  sound_well : (s : S) (f : Finding) → IsFindingOf rules program s f → is_sound f ≡ true → IsWell rules program s
   sound_well s (found.Sound order) right sound = (right.0, right.1)
+  sound_well s _ right sound = absurd (true≢false (sym sound))
 
-  module _ (same : State Machine Memory Place Form → State Machine Memory Place Form → Bool)
-      (machine : IsMachine (machine_of {Machine = Machine} {Form = Form} rules program))
-      (merges : Merges (machine_of {Machine = Machine} {Form = Form} rules program) same)
-      (sound_alike : (r s : State Machine Memory Place Form) → Fits rules program r → Fits rules program s
-      → same r s ≡ true → IsSound (IsFindingOf rules program) r → IsSound (IsFindingOf rules program) s)
-      (alike : (r s : State Machine Memory Place Form) → Fits rules program r → Fits rules program s → same r s ≡ true
-      → AreStatesAlike rules r s)
-      (es : List (Entry (State Machine Memory Place Form)))
-      (law : IsLawful (machine_of rules program) (AreOneBy same) (IsFindingOf rules program) es) where
+  module _ (Same : S → S → Type 0) (es : List (Entry S))
+      (law : IsLawful (machine_of rules program) Same (IsFindingOf rules program) es) where
     -- the line of the entry after some describes its state
-    line_tells : (front rest : List (Entry (State Machine Memory Place Form)))
-        (e : Entry (State Machine Memory Place Form)) (line : BookLine) → es ≡ front ++ e ∷ rest → 1 ≤ length front
-        → IsLineOf e.origin e.finding line
-        → Tells rules program (states front) line e.state
+    line_tells : (front rest : List (Entry S)) (e : Entry S) (line : BookLine) → es ≡ front ++ e ∷ rest
+        → 1 ≤ length front → IsLineOf e.origin e.finding line → Tells rules program (states front) line e.state
     line_tells front rest e line whole some of_e =
-        let here : At (front ++ e ∷ rest) (length front + 0) e = get-append_right front (e ∷ rest) 0 e refl in
-        let plain : length front + 0 ≡ length front = omega arith in
-        let at : At es (length front) e = rw (whole, ← plain) here in
+        let at : At es (length front) e =
+        rw whole (rw add-zero at (get-append_right front (e ∷ rest) 0 e refl)) in
         let from = law.origins (length front) e at some in
         let number : line.parent ≡ from.origin.parent = cc (from.recorded, of_e.step) in
         let thread : line.thread ≡ from.origin.thread = cc (from.recorded, of_e.step) in
-        let there = get_at front from.origin.parent from.earlier in
-        let parent : there.0 ≡ from.parent =
-        cc (get-append_left front (e ∷ rest) from.origin.parent there.0 there.1, from.entered, whole) in
-        let stands : slice_get (states front) line.parent ≡ Some from.parent.state =
-        rw (number, ← parent) (states-at front from.origin.parent there.0 there.1) in (
-          record { parent = from.parent.state; at = stands; step = rw thread from.step },
+        let parent =
+        get-front front (e ∷ rest) from.origin.parent from.parent (rw whole at from.entered) from.earlier in (
+          record {
+            parent = from.parent.state;
+            at = rw number (states-at front from.origin.parent from.parent parent);
+            step = rw thread from.step;
+          },
           found_shown e.state e.finding line.order (law.findings (length front) e at) of_e.order,
         )
 
-    written_continues : (front rest : List (Entry (State Machine Memory Place Form))) (lines : List BookLine)
-        → es ≡ front ++ rest → 1 ≤ length front
+    written_continues : (front rest : List (Entry S)) (lines : List BookLine) → es ≡ front ++ rest → 1 ≤ length front
         → AllZip (λ entry line. IsLineOf entry.origin entry.finding line) rest lines
         → Continues rules program (states front) lines (states es)
     written_continues front [] [] whole some z = ap states (whole ∙ append-nil front)
     written_continues front [] (line ∷ lines) whole some z = absurd z
     written_continues front (e ∷ rest) [] whole some z = absurd z
-    written_continues front (e ∷ rest) (line ∷ lines) whole some z =
-        let joined : states front ++ e.state ∷ [] ≡ states (front ++ e ∷ []) =
-        sym (map-append (λ (e : Entry (State Machine Memory Place Form)). e.state) front (e ∷ [])) in
-        let longer : length (front ++ e ∷ []) ≡ length front + 1 = length_push front e in (
-          e.state,
-          line_tells front rest e line whole some z.0,
-          rw joined
-              (written_continues (front ++ e ∷ []) rest lines (whole ∙ sym (append_assoc front (e ∷ []) rest))
-              (omega arith) z.1),
-        )
-
-    -- no step leads out of the states of a book with no entry left
-    states_closed : IsWorkedOut es → AreClosed (machine_of rules program) (AreStatesAlike rules) (states es)
-    states_closed out =
-        let closed =
-        worked_out_closed (machine_of rules program) same (IsFindingOf rules program) machine merges sound_alike es
-        law out in
-        record {
-          fit = closed.fit;
-          start = (let w = closed.start in
-              (w.0, w.1, w.2, alike w.1 (start rules program) (closed.fit w.0 w.1 w.2) machine.start_fits w.3));
-          steps = (λ i t s next at leads.
-              let w = closed.steps i t s next at leads in (
-                w.0,
-                w.1,
-                w.2,
-                alike w.1 next (closed.fit w.0 w.1 w.2)
-                    (machine.step_fits s next t (closed.fit i s at) leads) w.3,
-              ));
-        }
+    written_continues front (e ∷ rest) (line ∷ lines) whole some z = (
+      e.state,
+      line_tells front rest e line whole some z.0,
+      rw (← map-append (λ (e : Entry S). e.state) front (e ∷ []))
+          (written_continues (front ++ e ∷ []) rest lines (whole ∙ sym (append_assoc front (e ∷ []) rest))
+          (omega (arith, length_push front e)) z.1),
+    )
 
     -- the lines of a closed and sound book pass
-    lines_pass : (lines : List BookLine) → AreLinesOf es lines → IsWorkedOut es → AreSound es
+    lines_pass : (lines : List BookLine) (xs : List (Entry S)) → es ≡ xs → AreLinesOf xs lines → AreSound es
+        → AreClosed (machine_of rules program) (AreStatesAlike rules) (states es)
         → Pass Machine Form rules program lines
-    lines_pass lines of_book out sound = go es refl of_book
-      where
-        go : (xs : List (Entry (State Machine Memory Place Form))) → es ≡ xs → AreLinesOf xs lines
-            → Pass Machine Form rules program lines
-        go [] whole of_xs = absurd (let q : None ≡ Some law.start.0 = rw whole at law.start.1 in cc)
-        go (e ∷ rest) whole of_xs =
-            let at : At es 0 e = rw whole refl in
-            let first : e ≡ law.start.0 = cc (at, law.start.1) in
-            let starts : e.state ≡ start rules program = rw first law.start.2 in (
-              states es,
-              (
-                (
-                  rw starts at (sound_well e.state e.finding (law.findings 0 e at) (sound 0 e at)),
-                  start_explained Machine Form rules program,
-                ),
-                rw starts at (written_continues (e ∷ []) rest lines whole (omega arith) of_xs),
-              ),
-              states_closed out,
-            )
+    lines_pass lines [] whole of_xs sound closed =
+        absurd (let q : None ≡ Some law.start.0 = rw whole at law.start.1 in cc)
+    lines_pass lines (e ∷ rest) whole of_xs sound closed =
+        let at : At es 0 e = rw whole refl in
+        let first : e ≡ law.start.0 = cc (at, law.start.1) in
+        let starts : e.state ≡ start rules program = rw first law.start.2 in (
+          states es,
+          (
+            (rw starts at (sound_well e.state e.finding (law.findings 0 e at) (sound 0 e at)), start_explained),
+            rw starts at (written_continues (e ∷ []) rest lines whole (omega arith) of_xs),
+          ),
+          closed,
+        )
 
 -- the lines of a closed and sound book of a machine and a program pass
-pub written_pass : {Machine Memory Place Form : Type 0}
-    {same : State Machine Memory Place Form → State Machine Memory Place Form → Bool}
-    (rules : Machine → Rules Memory Place) (book : Contents Machine (State Machine Memory Place Form))
-    → IsLawfulIn rules book → IsMachine (machine_in rules book) → Merges (machine_in rules book) same
-    → Agree (machine_in rules book) (AreOneBy same) (CountsAsOne (rules book.machine) book.merge)
-    → ((r s : State Machine Memory Place Form) → Fits (rules book.machine) book.program r
-    → Fits (rules book.machine) book.program s → same r s ≡ true
-    → IsSound (right_in rules book) r → IsSound (right_in rules book) s)
+pub written_pass : {Machine Memory Place Form : Type 0} (rules : Machine → Rules Memory Place)
+    (book : Contents Machine (State Machine Memory Place Form)) → IsLawfulIn rules book
+    → CountsAsOne (rules book.machine) book.merge (machine_in rules book).start (machine_in rules book).start
     → IsClosed book → AreSound book.entries → (lines : List BookLine) → AreLinesOf book.entries lines
     → Pass Machine Form (rules book.machine) book.program lines
-written_pass {Machine} {Memory} {Place} {Form} {same} rules book law machine merges counts sound_alike closed sound
-    lines of_book =
-    let tested = book_back (machine_in rules book) machine (AreOneBy same) _ counts (right_in rules book) book law in
-    lines_pass (rules book.machine) book.program same machine merges sound_alike
-    (λ r s r_fits s_fits one. rw closed.0 at ((counts r s r_fits s_fits).0 one))
-    book.entries tested.law lines of_book closed.1 sound
+written_pass rules book law itself (names, out) sound lines of_book =
+    let m = machine_in rules book in
+    let Same = CountsAsOne (rules book.machine) book.merge in
+    let closed = worked_out_closed m Same (right_in rules book) book.entries law.law itself out in
+    lines_pass _ _ (rules book.machine) book.program Same book.entries law.law lines book.entries refl of_book sound
+    (rw names at closed)

@@ -2,10 +2,10 @@ use Rattle.std.proofs.Common.{leb}
 use Rattle.tree_machine.specs.declared.state.State.{State}
 use Rattle.book.specs.Books.{machine_in, right_in}
 use Rattle.book.specs.Entries.{Entry}
-use Rattle.std.proofs.lemmas.Bool.{le-leb}
+use Rattle.std.proofs.lemmas.Bool.{le-leb, lt-leb}
 use Rattle.replay.specs.Schedule.{AreOneBy}
 use Rattle.book.proofs.Agreeing.{book_back, count_as}
-use Rattle.book.proofs.Counts.{count_to_is, count_upto, gt-leb}
+use Rattle.book.proofs.Counts.{count_to_is, count_upto}
 use Rattle.book.proofs.Ways.{steps_after}
 use Rattle.book.proofs.book.Book.count_to.Goals as goal
 
@@ -15,7 +15,7 @@ returns-clause-value g c =
     (λ (e : Entry (State g.row.M.Denot g.row.M-Mem.Denot g.row.M-Loc.Denot g.row.M-Form.Denot)). leb e.state.steps
     c.args.steps) c.args.self.now.entries c.first_above.result c.first_above.ensures.within
     (λ i e at less. le-leb e.state.steps c.args.steps (c.first_above.ensures.below i e at less))
-    (λ i e at le. gt-leb e.state.steps c.args.steps (c.first_above.ensures.above i e at le))
+    (λ i e at le. lt-leb e.state.steps c.args.steps (c.first_above.ensures.above i e at le))
 
 pub returns-clause-count : goal.returns-clause-count
 returns-clause-count g c =

@@ -1,7 +1,8 @@
 use Rattle.std.proofs.Common.{sym, ◌∙◌}
 use Rattle.std.proofs.lemmas.Bool.{leb-false, leb-true}
 use Rattle.book.proofs.Cursors.{first_within}
-use Rattle.book.proofs.InBook.{all_expanded_to, left_to, none_left_to}
+use Rattle.book.proofs.Closed.{worked_out}
+use Rattle.book.proofs.InBook.{left_to, none_left_to}
 use Rattle.book.proofs.book.Book.is_left_to.Goals as goal
 
 pub steps_to-requires-after_bounds : goal.steps_to-requires-after_bounds
@@ -11,7 +12,7 @@ steps_to-requires-after_bounds g c κs within =
 pub returns-in-None-clause-none : goal.returns-in-None-clause-none
 returns-in-None-clause-none g c =
     rw (← c.self.view_is)
-    (λ _. all_expanded_to c.self.invariant.0 c.args.steps (sym c.first_left.ensures ∙ c.in-None.is))
+    (λ _ i e at _. worked_out _ (sym c.first_left.ensures ∙ c.in-None.is) i e at)
 
 pub returns-in-Some-clause-left : goal.returns-in-Some-clause-left
 returns-in-Some-clause-left g c =

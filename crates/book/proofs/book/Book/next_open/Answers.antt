@@ -1,6 +1,7 @@
 use Rattle.std.proofs.Common.{sym, ◌∙◌}
 use Rattle.book.proofs.Cursors.{first_within}
-use Rattle.book.proofs.InBook.{none_of_expanded, none_of_open, open_is_later, open_is_next}
+use Rattle.book.proofs.InBook.{open_is_later, open_is_next}
+use Rattle.book.proofs.Next.{no_next_expanded, no_next_open}
 use Rattle.book.proofs.book.Book.next_open.Goals as goal
 
 pub steps_to-requires-after_bounds : goal.steps_to-requires-after_bounds
@@ -14,12 +15,12 @@ steps_to-requires-2-after_bounds g c κs within =
 pub returns-in_err-first-clause-none : goal.returns-in_err-first-clause-none
 returns-in_err-first-clause-none g c =
     rw (c.from_residual.ensures, ← c.self.view_is)
-    (none_of_expanded c.self.invariant.0 (sym c.first_left.ensures ∙ c.in_err-first.was))
+    (no_next_expanded _ _ _ _ c.self.invariant.0.law.law (sym c.first_left.ensures ∙ c.in_err-first.was))
 
 pub returns-in_err-open-clause-none : goal.returns-in_err-open-clause-none
 returns-in_err-open-clause-none g c =
     rw (c.from_residual-in_err-open.ensures, ← c.self.view_is)
-    (none_of_open c.self.invariant.0 (sym c.first_open.ensures.first ∙ c.in_err-open.was))
+    (no_next_open _ _ _ _ c.self.invariant.0.law.law (sym c.first_open.ensures.first ∙ c.in_err-open.was))
 
 pub returns-then-steps_to-clause-next : goal.returns-then-steps_to-clause-next
 returns-then-steps_to-clause-next g c =
