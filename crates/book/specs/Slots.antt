@@ -64,10 +64,6 @@ pub record AreCursors {S : Type 0} (entries : List (Entry S)) (next_open first_l
   pub left : IsFirstLeft entries first_left
   pub first_fault : fault ≡ position (λ e. not (is_sound e.finding)) entries
 
--- entry i is there and is not expanded
-abbrev pub IsLeft : {S : Type 0} → List (Entry S) → ℕ → Type 0
-IsLeft {S} entries i = (e : Entry S) × At entries i e × (e.mark ≢ Expanded)
-
 -- what stood in front still does
 abbrev pub IsGrown : {X : Type 0} → List X → List X → Type 0
 IsGrown old new = take (length old) new ≡ old
