@@ -16,8 +16,8 @@ use Rattle.options.specs.declared.options.Merge.{Merge}
 use Rattle.crew.specs.declared.answer.Answer.TheVariants as answer
 use Rattle.crew.specs.Due.{IsAbove, IsDue, IsFirstAbove}
 use Rattle.crew.specs.Faults.{LeadsToFault, IsLeastFault}
-use Rattle.crew.specs.Reading.{first_fault, IsLastLayer}
-use Rattle.crew.proofs.Soundness.{IsJudged, SoundTo, fault_longer, is_fault, mark_cases, none_unsound, shorter_sound}
+use Rattle.crew.specs.Reading.{first_fault, IsFullAt, IsLastLayer}
+use Rattle.crew.proofs.Soundness.{IsJudged, SoundTo, expanded_unless, fault_longer, is_fault, none_unsound, shorter_sound}
 use Rattle.crew.proofs.Soundness.{sound_to}
 use Rattle.crew.proofs.Growing.{not_above, count_all, more_than}
 use Rattle.crew.proofs.Reaching.{above_more, more_above}
@@ -64,16 +64,14 @@ module _ {X S : Type 0} {m : StepMachine S} {same : S → S → Bool} {right : S
         schedule = schedule.items;
         long = refl;
         faulty = (e.finding, leads_to_fault);
-        least = (λ d faulty. elim (cases_lt (length d) (length schedule.items)) [
-          | inl l ↦ absurd (omega (arith, fault_longer judged (length d) (fault_sound (length d) l) d faulty))
-          | inr le ↦ le
-        ]);
+        least = (λ d faulty.
+            let longer : ¬ (length d < length schedule.items) =
+            λ less. omega (arith, fault_longer judged (length d) (fault_sound (length d) less) d faulty) in
+            omega arith);
       },
       within,
-      (λ J above. elim (cases_lt (length schedule.items) J) [
-        | inl l ↦ l
-        | inr le ↦ absurd (none_above last.0 J le above.above)
-      ]),
+      (λ J above.
+          let beyond : ¬ (J ≤ length schedule.items) = λ le. none_above last.0 J le above.above in omega arith),
       count_all judged.machine judged.merges judged.book.law (length schedule.items) last.0 last.1,
     )
       where
@@ -85,16 +83,13 @@ module _ {X S : Type 0} {m : StepMachine S} {same : S → S → Bool} {right : S
           fault = is_fault judged i first e at;
         }
 
-  module _ (d i : ℕ) (e : Entry S) (at_i : At b.entries i e) (taken : e.mark ≡ Taken) (xs : List (Successor S))
-      (expansion : IsExpansion m right e.state xs)
-      (full : b.limit < length b.entries + length (unknown same (states b.entries) xs)) (layer : m.steps e.state ≡ d)
+  -- an entry of layer d, for whose steps the book has no room
+  module _ (d i : ℕ) {Same : S → S → Type 0} (cut : IsFullAt m Same right b i) (layer : m.steps cut.entry.state ≡ d)
+      (full : b.limit < length b.entries + length (unknown same (states b.entries) cut.successors))
       (sound : (j : ℕ) (f : Entry S) → At b.entries j f → m.steps f.state ≤ d → is_sound f.finding ≡ true) where
     below_taken : IsExpandedBelow m.steps b.entries d
     below_taken j f at less =
-        elim (mark_cases f.mark) [
-          | inl x ↦ x
-          | inr x ↦ absurd (omega (arith, judged.book.law.least i j e f at_i taken at x))
-        ]
+        expanded_unless f.mark (λ unexpanded. omega (arith, judged.book.law.least i j cut.entry f cut.at cut.taken at unexpanded))
 
     -- the states of the steps of a layer that is cut are sound
     pub stopped_sound : SoundTo m right d
@@ -107,11 +102,9 @@ module _ {X S : Type 0} {m : StepMachine S} {same : S → S → Bool} {right : S
       record {
         within = omega arith;
         above = more_above judged.machine judged.merges
-            (more_than judged.machine judged.merges judged.book.law i at_i taken expansion d (omega arith) full);
-        first = (λ j above. elim (cases_lt d j) [
-          | inl l ↦ omega arith
-          | inr le ↦ absurd (none_above below_taken j le above)
-        ]);
+            (more_than judged.machine judged.merges judged.book.law i cut.at cut.taken cut.expansion d (omega arith)
+            full);
+        first = (λ j above. let beyond : ¬ (j ≤ d) = λ le. none_above below_taken j le above in omega arith);
       },
       (λ F least. omega (arith, sound_no_fault d stopped_sound F least)),
     )

@@ -1,7 +1,7 @@
 -- What a test that decides which states count as one finds new is what is new.
 use Rattle.std.proofs.Common.{◌≡◌, ℕ, suc, ◌+◌, ◌<◌, inl, inr, true, false, Some, List, [], ◌∷◌, ◌++◌}
 use Rattle.std.proofs.Common.{length, map, refl, sym, ap, ◌∙◌, slice_get}
-use Rattle.std.proofs.lemmas.Bool.{cases_Bool, true≢false}
+use Rattle.std.proofs.lemmas.Bool.{false_from_ne_true, true_from_ne_false, true≢false}
 use Rattle.tree_machine.proofs.Lists.{get-append_cases}
 use Rattle.book.specs.declared.successor.Successor.{Successor}
 use Rattle.book.specs.declared.entry.Mark.TheVariants.{Expanded}
@@ -22,22 +22,16 @@ module _ {S : Type 0} {m : StepMachine S} {Same : S → S → Type 0} (test : Is
 
   is_known : (known : List S) (s : S) → AllFit known → m.Fits s → Knows Same known s → knows test.0 known s ≡ true
   is_known known s fit fits there =
-      elim (cases_Bool (knows test.0 known s)) [
-        | inl t ↦ t
-        | inr f ↦ absurd (true≢false
-            (sym ((test.2 there.1 s (fit there.0 there.1 there.2) fits).1 there.3)
-            ∙ list_any-false (λ (r : S). test.0 r s) known f there.0 there.1 there.2))
-      ]
+      true_from_ne_false (knows test.0 known s) (λ f. true≢false
+      (sym ((test.2 there.1 s (fit there.0 there.1 there.2) fits).1 there.3)
+      ∙ list_any-false (λ (r : S). test.0 r s) known f there.0 there.1 there.2))
 
   is_unknown : (known : List S) (s : S) → AllFit known → m.Fits s → (Knows Same known s → ⊥)
       → knows test.0 known s ≡ false
   is_unknown known s fit fits new =
-      elim (cases_Bool (knows test.0 known s)) [
-        | inl t ↦ absurd (
-            let there = list_any-true (λ (r : S). test.0 r s) known t in
-            new (there.0, there.1, there.2, (test.2 there.1 s (fit there.0 there.1 there.2) fits).0 there.3))
-        | inr f ↦ f
-      ]
+      false_from_ne_true (knows test.0 known s) (λ t.
+      let there = list_any-true (λ (r : S). test.0 r s) known t in
+      new (there.0, there.1, there.2, (test.2 there.1 s (fit there.0 there.1 there.2) fits).0 there.3))
 
   one_more_fits : (known : List S) (s : S) → AllFit known → m.Fits s → AllFit (known ++ s ∷ [])
   one_more_fits known s fit fits k r at =

@@ -2,7 +2,6 @@
 use Rattle.std.proofs.Common.{◌≡◌, ℕ, ◌+◌, ◌^◌, ◌<◌, ◌≤◌, inl, inr, Bool, List, length, sym, ap, ◌∙◌, arith}
 use Rattle.std.proofs.Common.{length-append}
 use Rattle.std.proofs.Math.ListN.{length-map}
-use Rattle.std.proofs.lemmas.Bool.{cases_lt}
 use Rattle.std.proofs.lemmas.List.Sums.{count_by-le-length}
 use Rattle.book.specs.declared.successor.Successor.{Successor}
 use Rattle.replay.specs.declared.finding.Finding.{Finding}
@@ -99,14 +98,12 @@ module _ {X S : Type 0} {m : StepMachine S} {same : S → S → Bool} {right : S
       expansion = expansion;
       full = full;
     };
-    layer = elim (cases_lt (m.steps entry.0.state) d) [
-      | inl l ↦ absurd (
-          let state = ap m.steps (entry.3 ∙ sym one.takes.state) in
-          let done =
-          one.layer.through.done i one.takes.entry one.takes.next.entry (omega (arith, state)) in
-          cc (done, one.takes.next.is_open))
-      | inr ge ↦ omega (arith, bounded)
-    ];
+    layer = (
+        let state = ap m.steps (entry.3 ∙ sym one.takes.state) in
+        let deep : ¬ (m.steps entry.0.state < d) = λ less.
+        let done = one.layer.through.done i one.takes.entry one.takes.next.entry (omega (arith, state)) in
+        cc (done, one.takes.next.is_open) in
+        omega (arith, bounded));
     through = through_grows m d b.entries mid.entries one.layer.through
         (rw one.takes.after (taken_grows m b.entries i one.takes.entry one.takes.next));
   }

@@ -66,6 +66,9 @@ listed_both p q left right cases = record {
   ]);
 }
 
+listed_none : {S : Type 0} {P : S → Type 0} → ((x : S) → P x → ⊥) → Listed P
+listed_none none = record { items = []; are = (λ i x at. absurd (cc)); all = (λ x h. absurd (none x h)) }
+
 listed_one : {S : Type 0} (r : S) → Listed (λ x. r ≡ x)
 listed_one r = record {
   items = r ∷ [];
@@ -86,39 +89,28 @@ module _ {S : Type 0} (m : StepMachine S) (machine : IsMachine m) where
   abbrev ReachesBy : ℕ → S → ℕ → S → Type 0
   ReachesBy n r k x = (t : ℕ) × (u : S) × (t < k) × (m.step r t ≡ Some u) × Reaches n u x
 
-  with_thread : (n : ℕ) (r : S) (k : ℕ) (o : Option S) → m.step r k ≡ o → ((u : S) → Listed (Reaches n u))
-      → Listed (ReachesBy n r k) → Listed (ReachesBy n r (suc k))
-  with_thread n r k None is each rest = record {
-    items = rest.items;
-    are = (λ i x at. let w = rest.are i x at in (w.0, w.1, omega (arith, w.2), w.3, w.4));
-    all = (λ x w. elim (cases_eq w.0 k) [
-      | inl e ↦ absurd (cc (is, w.3, ap (m.step r) e))
-      | inr other ↦ rest.all x (w.0, w.1, omega (arith, w.2, other), w.3, w.4)
-    ]);
+  by_thread : (n : ℕ) (r : S) (k : ℕ) (o : Option S) → m.step r k ≡ o → ((u : S) → Listed (Reaches n u))
+      → Listed (λ x. (u : S) × (m.step r k ≡ Some u) × Reaches n u x)
+  by_thread n r k None is each = listed_none (λ x w. cc (is, w.1))
+  by_thread n r k (Some u) is each = record {
+    items = (each u).items;
+    are = (λ i x at. (u, is, (each u).are i x at));
+    all = (λ x w. let same_end : w.0 ≡ u = cc (is, w.1) in (each u).all x (rw same_end at w.2));
   }
-  with_thread n r k (Some u) is each rest =
-      listed_both (each u) rest
-      (λ x w. (k, u, omega arith, is, w))
+
+  by_threads : (n : ℕ) (r : S) (k : ℕ) → ((u : S) → Listed (Reaches n u)) → Listed (ReachesBy n r k)
+  by_threads n r zero each = listed_none (λ x w. omega (arith, w.2))
+  by_threads n r (suc k) each =
+      listed_both (by_thread n r k (m.step r k) refl each) (by_threads n r k each)
+      (λ x w. (k, w.0, omega arith, w.1, w.2))
       (λ x w. (w.0, w.1, omega (arith, w.2), w.3, w.4))
       (λ x w. elim (cases_eq w.0 k) [
-        | inl e ↦ inl (let same_end : w.1 ≡ u = cc (is, w.3, ap (m.step r) e) in rw same_end at w.4)
+        | inl same ↦ inl (w.1, rw same at w.3, w.4)
         | inr other ↦ inr (w.0, w.1, omega (arith, w.2, other), w.3, w.4)
       ])
 
-  by_threads : (n : ℕ) (r : S) (k : ℕ) → ((u : S) → Listed (Reaches n u)) → Listed (ReachesBy n r k)
-  by_threads n r zero each = record {
-    items = [];
-    are = (λ i x at. absurd (cc));
-    all = (λ x w. absurd (omega (arith, w.2)));
-  }
-  by_threads n r (suc k) each = with_thread n r k (m.step r k) refl each (by_threads n r k each)
-
   listed : (n : ℕ) (r : S) → Listed (Reaches n r)
-  listed zero r = record {
-    items = [];
-    are = (λ i x at. absurd (cc));
-    all = (λ x w. absurd (omega (arith, w.1)));
-  }
+  listed zero r = listed_none (λ x w. omega (arith, w.1))
   listed (suc n) r =
       listed_both (listed_one r) (by_threads n r m.threads (listed n))
       (λ x e. ([], omega arith, ap Some e))

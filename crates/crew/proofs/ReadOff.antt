@@ -184,12 +184,11 @@ module _ {Machine Memory Place Form : Type 0} {rules : Machine → Rules Memory 
       (let one : full.entry ≡ way.0 = cc (full.at, way.1) in rw one (sym way.2)) in
       let over = full_by_test known.test judged.book full.expansion full.full in
       let due =
-      stopped_due judged d id full.entry full.at full.taken full.successors full.expansion over layer sound n less in
+      stopped_due judged d id full layer over sound n less in
       record {
         due = due_in n (answer.Stopped limit d) (at, due.0, due.1);
         headline = (λ schedule state short leads. sound_correct (rules b.machine) b.program state
-            (stopped_sound judged d id full.entry full.at full.taken full.successors full.expansion over layer sound
-            schedule state short leads));
+            (stopped_sound judged d id full layer over sound schedule state short leads));
         first = tt;
         closed = tt;
       }

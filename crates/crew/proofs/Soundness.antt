@@ -17,10 +17,11 @@ use Rattle.book.proofs.Ways.{fits_after, steps_after}
 use Rattle.crew.specs.Faults.{IsFaulty}
 use Rattle.crew.specs.Reading.{first_fault}
 
-pub mark_cases : (k : Mark) → (k ≡ Expanded) ⊎ (k ≢ Expanded)
-mark_cases Open = inr (λ e. cc)
-mark_cases Taken = inr (λ e. cc)
-mark_cases Expanded = inl refl
+-- a mark is that of an expanded entry unless it can be shown not to be
+pub expanded_unless : (k : Mark) → (k ≢ Expanded → ⊥) → k ≡ Expanded
+expanded_unless Open not = absurd (not (λ e. cc))
+expanded_unless Taken not = absurd (not (λ e. cc))
+expanded_unless Expanded not = refl
 
 -- every schedule of at most n steps reaches a sound state
 abbrev pub SoundTo : {S : Type 0} → StepMachine S → (S → Finding → Type 0) → ℕ → Type 0
@@ -54,13 +55,11 @@ module _ {X S : Type 0} {m : StepMachine S} {same : S → S → Bool} {right : S
   -- a schedule that reaches a fault is longer than those that reach sound states
   pub fault_longer : (n : ℕ) → SoundTo m right n → (c : List ℕ) → IsFaulty m right c → n < length c
   fault_longer n sound c faulty =
-      elim (cases_lt n (length c)) [
-        | inl l ↦ l
-        | inr le ↦ absurd (
-            let leads = faulty.1 in
-            let s = sound c leads.state le leads.leads in
-            true≢false (sym (judged.agree leads.state s.0 faulty.0 s.1 leads.found s.2) ∙ leads.fault))
-      ]
+      let leads = faulty.1 in
+      let longer : ¬ (length c ≤ n) = λ le.
+      let s = sound c leads.state le leads.leads in
+      true≢false (sym (judged.agree leads.state s.0 faulty.0 s.1 leads.found s.2) ∙ leads.fault) in
+      omega arith
 
   -- where entries of at most n steps are sound, and those of fewer expanded, so are the states
   pub sound_to : (n : ℕ) → IsExpandedBelow m.steps b.entries n
@@ -95,8 +94,6 @@ module _ {X S : Type 0} {m : StepMachine S} {same : S → S → Bool} {right : S
     -- and so are the states after fewer steps
     pub shorter_sound : (n : ℕ) → n < m.steps e.state → SoundTo m right n
     shorter_sound n less = sound_to n
-        (λ j d there bounded. elim (mark_cases d.mark) [
-          | inl x ↦ x
-          | inr x ↦ absurd (omega (arith, judged.book.law.near j i d e there x at))
-        ])
+        (λ j d there bounded.
+        expanded_unless d.mark (λ unexpanded. omega (arith, judged.book.law.near j i d e there unexpanded at)))
         (λ j d there bounded. sound_below j d there (omega arith))

@@ -1,6 +1,5 @@
 -- One verdict is due.
-use Rattle.std.proofs.Common.{◌≡◌, ℕ, ◌≤◌, Bool, inl, inr, sym, ◌∙◌, arith}
-use Rattle.std.proofs.lemmas.Bool.{cases_lt}
+use Rattle.std.proofs.Common.{◌≡◌, ℕ, ◌≤◌, ◌<◌, Bool, sym, ◌∙◌, arith}
 use Rattle.replay.specs.declared.finding.Finding.{Finding}
 use Rattle.options.specs.declared.options.Merge.{Merge}
 use Rattle.replay.specs.Schedule.{AreOneBy, StepMachine, Merges}
@@ -15,10 +14,8 @@ use Rattle.crew.proofs.Reaching.{above_more}
 module _ {S : Type 0} {m : StepMachine S} {same : S → S → Bool} (merges : Merges m same) where
   no_less : {n k l : ℕ} → IsCount m (AreOneBy same) n k → IsCount m (AreOneBy same) n l → k ≤ l
   no_less {n} {k} {l} count other =
-      elim (cases_lt l k) [
-        | inl less ↦ absurd (omega (arith, count_above merges other (above_more (k, count, less))))
-        | inr le ↦ le
-      ]
+      let few : ¬ (l < k) = λ less. omega (arith, count_above merges other (above_more (k, count, less))) in
+      omega arith
 
   -- n steps reach one number of states only
   pub one_count : {n k l : ℕ} → IsCount m (AreOneBy same) n k → IsCount m (AreOneBy same) n l → k ≡ l

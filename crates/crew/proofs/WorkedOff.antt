@@ -1,6 +1,6 @@
 -- Where the layers are worked off, the last one is at hand.
-use Rattle.std.proofs.Common.{◌≡◌, ℕ, zero, suc, ◌≤◌, inl, inr, false, List, sym, ◌∙◌, arith}
-use Rattle.std.proofs.lemmas.Bool.{true≢false, cases_lt}
+use Rattle.std.proofs.Common.{◌≡◌, ℕ, zero, suc, ◌≤◌, ◌<◌, false, List, sym, ◌∙◌, arith}
+use Rattle.std.proofs.lemmas.Bool.{true≢false}
 use Rattle.replay.specs.Findings.{is_sound}
 use Rattle.book.specs.Entries.{Entry, At}
 use Rattle.options.specs.declared.options.Merge.{Merge}
@@ -12,10 +12,7 @@ module _ {S : Type 0} (steps : S → ℕ) (es : List (Entry S)) (n : ℕ) (worke
   pub last_of_fault : (i : ℕ) (e : Entry S) → At es i e → is_sound e.finding ≡ false → (steps e.state ≤ n)
       × IsLastLayer steps es (steps e.state)
   last_of_fault i e at fault =
-      let many : worked.layer ≤ steps e.state = elim (cases_lt (steps e.state) worked.layer) [
-        | inl l ↦ absurd (true≢false (sym (worked.stands.sound i e at l) ∙ fault))
-        | inr ge ↦ ge
-      ] in
+      let many : ¬ (steps e.state < worked.layer) = λ less. true≢false (sym (worked.stands.sound i e at less) ∙ fault) in
       let is : steps e.state ≡ worked.layer = omega (arith, worked.stands.shallow i e at) in
       rw is (worked.within, (worked.stands.done, worked.stands.shallow))
 
@@ -29,9 +26,8 @@ at_rest steps es merge (suc before) worked names out start at none = (
   names,
   before,
   (omega arith),
-  (λ i e there. elim (cases_lt before (steps e.state)) [
-    | inl over ↦ absurd (worked.stands.fresh i e there
-        (omega (arith, worked.stands.shallow i e there, worked.within)) (out i e there))
-    | inr within ↦ within
-  ]),
+  (λ i e there.
+      let few : ¬ (before < steps e.state) = λ over. worked.stands.fresh i e there
+      (omega (arith, worked.stands.shallow i e there, worked.within)) (out i e there) in
+      omega arith),
 )
