@@ -1,6 +1,6 @@
 -- Expansions of an entry's state.
 use Rattle.std.proofs.lemmas.Bool.{cases_Bool}
-use Rattle.std.proofs.Common.{◌≡◌, ℕ, suc, inl, inr, Bool, cond, Some, List, [], ◌∷◌, ◌++◌, length, map, refl, sym}
+use Rattle.std.proofs.Common.{◌≡◌, ℕ, suc, inl, inr, Bool, Some, List, [], ◌∷◌, ◌++◌, length, map, refl, sym}
 use Rattle.std.proofs.Common.{ap, ◌∙◌, slice_get}
 use Rattle.book.specs.declared.successor.Successor.{Successor}
 use Rattle.replay.specs.declared.finding.Finding.{Finding}
@@ -13,47 +13,32 @@ use Rattle.book.specs.Unknown.{knows, unknown}
 use Rattle.book.specs.Law.{IsExpansion}
 use Rattle.book.specs.Books.{machine_in, right_in, HoldsSteps}
 
-module _ {S : Type 0} (same : S → S → Bool) where
-  -- how many states are neither known nor those of earlier ones
-  count_unknown : List S → List S → ℕ
-  count_unknown known [] = 0
-  count_unknown known (s ∷ rest) =
-      cond (knows same known s) (count_unknown known rest) (suc (count_unknown (known ++ s ∷ []) rest))
-
-  unknown_counts : (known : List S) (xs : List (Successor S))
-      → length (unknown same known xs) ≡ count_unknown known (map (λ (x : Successor S). x.state) xs)
-  unfolding count_unknown
-  unknown_counts known [] = refl
-  unknown_counts known (x ∷ xs) =
-      elim (cases_Bool (knows same known x.state)) [
-        | inl old ↦ rw old (unknown_counts known xs)
-        | inr new ↦ rw new (ap suc (unknown_counts (known ++ x.state ∷ []) xs))
-      ]
-
-module _ {S : Type 0} (m : StepMachine S) (s : S) where
-  same_states : (xs ys : List (Successor S))
+module _ {S : Type 0} (m : StepMachine S) (s : S) (same : S → S → Bool) where
+  -- steps of the same threads are the same, so as many of their states are not known
+  as_many : (known : List S) (xs ys : List (Successor S))
       → map (λ (x : Successor S). x.thread) xs ≡ map (λ (x : Successor S). x.thread) ys
       → ((k : ℕ) (x : Successor S) → slice_get xs k ≡ Some x → m.step s x.thread ≡ Some x.state)
       → ((k : ℕ) (x : Successor S) → slice_get ys k ≡ Some x → m.step s x.thread ≡ Some x.state)
-      → map (λ (x : Successor S). x.state) xs ≡ map (λ (x : Successor S). x.state) ys
-  same_states [] [] threads left right = refl
-  same_states [] (y ∷ ys) threads left right = cc
-  same_states (x ∷ xs) [] threads left right = cc
-  same_states (x ∷ xs) (y ∷ ys) threads left right =
+      → length (unknown same known xs) ≡ length (unknown same known ys)
+  as_many known [] [] threads left right = refl
+  as_many known (x ∷ xs) (y ∷ ys) threads left right =
       let thread : x.thread ≡ y.thread = cc in
-      let rest : map (λ (z : Successor S). z.thread) xs ≡ map (λ (z : Successor S). z.thread) ys = cc in
+      let others : map (λ (z : Successor S). z.thread) xs ≡ map (λ (z : Successor S). z.thread) ys = cc in
       let state : x.state ≡ y.state = cc (left 0 x refl, right 0 y refl) in
-      let states = same_states xs ys rest (λ k z at. left (suc k) z at) (λ k z at. right (suc k) z at) in
-      cc
+      let rest : (seen : List S) → length (unknown same seen xs) ≡ length (unknown same seen ys) =
+      λ seen. as_many seen xs ys others (λ k z at. left (suc k) z at) (λ k z at. right (suc k) z at) in
+      elim (cases_Bool (knows same known y.state)) [
+        | inl old ↦ rw (state, old) (rest known)
+        | inr new ↦ rw (state, new) (ap suc (rest (known ++ y.state ∷ [])))
+      ]
+  as_many known _ _ threads left right = cc
 
 -- two expansions of a state have as many states that are not known
 pub same_unknown : {S : Type 0} {m : StepMachine S} {s : S} {right : S → Finding → Type 0} {xs ys : List (Successor S)}
     (same : S → S → Bool) (known : List S) → IsExpansion m right s xs → IsExpansion m right s ys
     → length (unknown same known xs) ≡ length (unknown same known ys)
 same_unknown {S} {m} {s} {right} {xs} {ys} same known a b =
-    unknown_counts same known xs
-    ∙ ap (count_unknown same known) (same_states m s xs ys (a.threads ∙ sym b.threads) a.steps b.steps)
-    ∙ sym (unknown_counts same known ys)
+    as_many m s same known xs ys (a.threads ∙ sym b.threads) a.steps b.steps
 
 -- what an expansion holds is right for the book that it is made for
 pub expansion_in : {X Memory Place Form : Type 0} (rules : X → Rules Memory Place)

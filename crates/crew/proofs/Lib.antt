@@ -1,6 +1,5 @@
 pub mod Crowding
 pub mod Counting
-pub mod Findings
 pub mod Soundness
 pub mod Growing
 pub mod Decided
@@ -11,9 +10,7 @@ pub mod Drives
 pub mod NextEntry
 pub mod Agreeing
 pub mod Reports
-pub mod WorkedOff
 pub mod Reaching
 pub mod Verdicts
-pub mod Rest
 mod ReadOff
 mod Crossing

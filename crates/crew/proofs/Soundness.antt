@@ -1,6 +1,6 @@
--- Which schedules reach sound states, from the law of the book alone.
-use Rattle.std.proofs.Common.{◌≡◌, ◌≢◌, ℕ, ◌<◌, ◌≤◌, ◌⊎◌, inl, inr, Bool, true, false, not, Option, Some, None}
-use Rattle.std.proofs.Common.{List, length, refl, sym, ap, ◌∙◌, arith, slice_get}
+-- Which schedules reach sound states, from the law of the book alone; and that findings of one state agree.
+use Rattle.std.proofs.Common.{◌≡◌, ◌≢◌, ℕ, ◌<◌, ◌≤◌, inl, inr, Bool, true, false, not, Option, Some, None}
+use Rattle.std.proofs.Common.{List, is_some, length, refl, sym, ap, ◌∙◌, arith, slice_get}
 use Rattle.std.proofs.lemmas.Bool.{true≢false, cases_lt, not-false, not-true}
 use Rattle.std.specs.Option.{option_map}
 use Rattle.replay.specs.declared.finding.Finding.{Finding}
@@ -10,7 +10,12 @@ use Rattle.replay.specs.Schedule.{AreOneBy, StepMachine, IsMachine, Merges, afte
 use Rattle.book.specs.Entries.{Entry, At, Contents}
 use Rattle.book.specs.Law.{IsLawfulBook}
 use Rattle.book.specs.Layers.{IsExpandedBelow}
-use Rattle.replay.specs.Findings.{is_sound, IsSound}
+use Rattle.replay.specs.Findings.{is_sound, IsFindingOf, IsSound}
+use Rattle.replay.specs.declared.finding.Finding.TheVariants.{Astray, Order, History, Sound}
+use Rattle.replay.specs.Correct.{IsCorrect}
+use Rattle.sched_program.specs.Program.{Program}
+use Rattle.tree_machine.specs.Rules.{Rules}
+use Rattle.tree_machine.specs.declared.state.State.{State}
 use Rattle.book.proofs.Coverage.{stands_after}
 use Rattle.book.proofs.Next.{first_passes, none_passes}
 use Rattle.book.proofs.Ways.{fits_after, steps_after}
@@ -97,3 +102,26 @@ module _ {X S : Type 0} {m : StepMachine S} {same : S → S → Bool} {right : S
         (λ j d there bounded.
         expanded_unless d.mark (λ unexpanded. omega (arith, judged.book.law.near j i d e there unexpanded at)))
         (λ j d there bounded. sound_below j d there (omega arith))
+
+-- ---- findings of one state agree
+
+module _ {Machine Memory Place Form : Type 0} (rules : Rules Memory Place) (program : Program) where
+  -- a state that some right finding shows sound is correct
+  pub sound_correct : (state : State Machine Memory Place Form) → IsSound (IsFindingOf rules program) state
+      → IsCorrect rules program state
+  sound_correct state (Sound order, h, sound) = (h.0, h.1, (order, h.2))
+  sound_correct state (_, h, sound) = absurd (cc)
+
+  -- and a correct state has no fault
+  pub correct_no_fault : (state : State Machine Memory Place Form) (f : Finding) → IsCorrect rules program state
+      → IsFindingOf rules program state f → is_sound f ≡ true
+  correct_no_fault state Astray correct h = absurd (true≢false (sym h ∙ ap is_some correct.0))
+  correct_no_fault state Order correct h = absurd (h.1 correct.1)
+  correct_no_fault state History correct h = absurd (h.2 correct.2)
+  correct_no_fault state (Sound order) correct h = refl
+
+  -- so the findings of one state are sound together
+  pub findings_agree : (state : State Machine Memory Place Form) (f g : Finding) → IsFindingOf rules program state f
+      → IsFindingOf rules program state g
+      → is_sound f ≡ true → is_sound g ≡ true
+  findings_agree state f g found other sound = correct_no_fault state g (sound_correct state (f, found, sound)) other
