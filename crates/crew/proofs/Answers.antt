@@ -19,8 +19,8 @@ use Rattle.crew.specs.declared.answer.Answer.TheVariants as answer
 use Rattle.crew.specs.Due.{IsAbove, IsDue, IsFirstAbove}
 use Rattle.crew.specs.Faults.{LeadsToFault, IsLeastFault}
 use Rattle.crew.specs.Reading.{first_fault, IsFullAt, IsLastLayer}
-use Rattle.crew.proofs.Soundness.{IsJudged, SoundTo, expanded_unless, fault_longer, is_fault, none_unsound, shorter_sound}
-use Rattle.crew.proofs.Soundness.{sound_to}
+use Rattle.crew.proofs.Soundness.{IsJudged, SoundTo, expanded_unless, fault_longer, is_fault, none_unsound}
+use Rattle.crew.proofs.Soundness.{shorter_sound, sound_to}
 use Rattle.crew.proofs.Growing.{not_above, count_all, more_than}
 use Rattle.crew.proofs.Reaching.{above_more, more_above}
 use Rattle.crew.proofs.Counting.{every_counted}
@@ -93,7 +93,8 @@ module _ {X S : Type 0} {m : StepMachine S} {same : S → S → Bool} {right : S
       (sound : (j : ℕ) (f : Entry S) → At b.entries j f → m.steps f.state ≤ d → is_sound f.finding ≡ true) where
     below_taken : IsExpandedBelow m.steps b.entries d
     below_taken j f at less =
-        expanded_unless f.mark (λ unexpanded. omega (arith, judged.book.law.least i j cut.entry f cut.at cut.taken at unexpanded))
+        expanded_unless f.mark
+        (λ unexpanded. omega (arith, judged.book.law.least i j cut.entry f cut.at cut.taken at unexpanded))
 
     -- the states of the steps of a layer that is cut are sound
     pub stopped_sound : SoundTo m right d

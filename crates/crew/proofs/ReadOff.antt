@@ -21,12 +21,10 @@ use Rattle.crew.specs.Reading.{IsAtRest, IsFullIn, IsLastLayer, IsReadOff, IsWor
 use Rattle.crew.specs.declared.answer.Answer.{Answer}
 use Rattle.crew.specs.declared.answer.Answer.TheVariants as answer
 use Rattle.crew.specs.Due.{IsDue}
-use Rattle.crew.proofs.Agreeing.{due_as}
-use Rattle.crew.proofs.Answers.{fault_due, fault_sound, holds_due, holds_sound}
-use Rattle.crew.proofs.Answers.{stopped_due, stopped_sound}
-use Rattle.crew.proofs.Decided.{count_by_test, full_by_test}
-use Rattle.crew.proofs.Expansions.{same_unknown}
+use Rattle.crew.proofs.Verdicts.{due_as}
+use Rattle.crew.proofs.Answers.{fault_due, fault_sound, holds_due, holds_sound, stopped_due, stopped_sound}
 use Rattle.crew.proofs.Answers.{count_rest, rest_count, rest_holds, rest_worked_out}
+use Rattle.crew.proofs.Decided.{count_by_test, full_by_test, same_unknown}
 use Rattle.crew.proofs.Soundness.{IsJudged, findings_agree, is_fault, sound_below, sound_correct}
 
 -- where the layers are worked off, that of a fault is the last
@@ -34,7 +32,8 @@ module _ {S : Type 0} (steps : S → ℕ) (es : List (Entry S)) (n : ℕ) (worke
   last_of_fault : (i : ℕ) (e : Entry S) → At es i e → is_sound e.finding ≡ false → (steps e.state ≤ n)
       × IsLastLayer steps es (steps e.state)
   last_of_fault i e at fault =
-      let many : ¬ (steps e.state < worked.layer) = λ less. true≢false (sym (worked.stands.sound i e at less) ∙ fault) in
+      let many : ¬ (steps e.state < worked.layer) =
+      λ less. true≢false (sym (worked.stands.sound i e at less) ∙ fault) in
       let is : steps e.state ≡ worked.layer = omega (arith, worked.stands.shallow i e at) in
       rw is (worked.within, (worked.stands.done, worked.stands.shallow))
 

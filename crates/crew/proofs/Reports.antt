@@ -16,8 +16,7 @@ use Rattle.crew.specs.Due.{IsDue, IsSameVerdict}
 use Rattle.crew.specs.Ledger.{ledger}
 use Rattle.crew.specs.Reading.{IsReadOff}
 use Rattle.crew.specs.Reporting.{IsBookOf, IsReport}
-use Rattle.crew.proofs.Agreeing.{due_as}
-use Rattle.crew.proofs.Verdicts.{one_verdict}
+use Rattle.crew.proofs.Verdicts.{due_as, one_verdict}
 
 -- shares that count what stands in a book sum to its totals
 sums_to : {X S : Type 0} (book : Contents X S) (each : List Share) → IsLedgerOf book (ledger each)
