@@ -58,7 +58,8 @@ module _ {Machine Memory Place Form : Type 0} (rules : Rules Memory Place) (prog
 
   -- what holds of the first states, and of each that a line describes, holds of all
   module _ (P : ℕ → State Machine Memory Place Form → Type 0)
-      (next : (before : List (State Machine Memory Place Form)) (line : BookLine) (state : State Machine Memory Place Form)
+      (next : (before : List (State Machine Memory Place Form)) (line : BookLine)
+      (state : State Machine Memory Place Form)
       → ((i : ℕ) (s : State Machine Memory Place Form) → slice_get before i ≡ Some s → P i s)
       → Tells rules program before line state → P (length before) state) where
     along : (before : List (State Machine Memory Place Form)) (lines : List BookLine)

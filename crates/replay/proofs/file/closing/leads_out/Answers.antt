@@ -42,8 +42,8 @@ returns-clause-none g c =
     let least : length c.threads.result.now ≤ c.loop-thread.thread = c.loop-thread-test.false in
     let all : length c.threads.result.now ≡ length input.program.now.threads = ap length c.threads.ensures.value in
     λ _ t next leads.
-    let runs = (machine (bound.lawful input.machine) c.threads.ensures.limits).is_thread c.args.replayer.now.state next t
-    leads in
+    let thread =
+    (machine (bound.lawful input.machine) c.threads.ensures.limits).is_thread c.args.replayer.now.state next t leads in
     c.loop-thread.invariant.1 t next (omega arith) leads
 
 pub returns-then-not-branch-clause-out : goal.returns-then-not-branch-clause-out

@@ -9,8 +9,8 @@ returns g c =
     let bound = g.met.M.Machine g.world.𝓛 g.world.𝓜 g.world.𝓡 ((λ s x. x), (λ x. x), (λ x. x), λ x. x) in
     let input = c.args.input.now in
     read_stands_for (bound.lawful input.machine) (bound.forms input.machine) c.initial.ensures.limits
-    input.lines.now c.args.index g.M.Encode.form_code c.requires.kept c.in-Some.label.now c.decode.new.self c.in-Some.ensures
-    (λ s within is. let cut = rw c.in-Some-2.is at c.in_ok-decode.ensures in
+    input.lines.now c.args.index g.M.Encode.form_code c.requires.kept c.in-Some.label.now c.decode.new.self
+    c.in-Some.ensures (λ s within is. let cut = rw c.in-Some-2.is at c.in_ok-decode.ensures in
     c.decoded_law.ensures.named c.in-Some-2.field-0.front s within (sym cut.written ∙ is))
 
 pub returns-2 : goal.returns-2
