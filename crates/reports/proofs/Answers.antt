@@ -1,26 +1,30 @@
 -- Which answer is due, by what the book shows.
-use Rattle.std.proofs.Common.{◌≡◌, ℕ, ◌+◌, ◌<◌, ◌≤◌, inl, inr, Bool, true, Some, None, List, length, refl, arith}
-use Rattle.std.proofs.lemmas.Bool.{cases_lt}
+use Rattle.std.proofs.Common.{◌≡◌, ℕ, ◌+◌, ◌<◌, ◌≤◌, Bool, true, Some, None, length, leb, refl, arith}
+use Rattle.std.proofs.lemmas.Bool.{leb-true}
 use Rattle.std.specs.Global.{Vec}
-use Rattle.book.specs.declared.successor.Successor.{Successor}
 use Rattle.replay.specs.declared.finding.Finding.{Finding}
 use Rattle.replay.specs.Schedule.{AreOneBy, StepMachine, after}
 use Rattle.book.specs.Entries.{Entry, Contents, At, states}
 use Rattle.book.specs.Unknown.{unknown}
-use Rattle.book.specs.declared.entry.Mark.TheVariants.{Taken}
-use Rattle.book.specs.Law.{IsExpansion}
-use Rattle.book.specs.Layers.{IsExpandedBelow}
+use Rattle.book.specs.Closed.{IsWorkedOut}
+use Rattle.book.specs.Layers.{IsExpandedBelow, IsShallow}
+use Rattle.book.proofs.Closed.{closed_holds}
+use Rattle.book.proofs.Counts.{count_to_is}
+use Rattle.book.proofs.Ways.{steps_after}
+use Rattle.replay.specs.Closed.{HoldsForEvery}
 use Rattle.book.specs.Counts.{IsCount}
 use Rattle.replay.specs.Findings.{is_sound}
 use Rattle.options.specs.declared.options.Merge.{Merge}
 use Rattle.reports.specs.declared.answer.Answer.TheVariants as answer
 use Rattle.reports.specs.Due.{IsAbove, IsDue, IsFirstAbove}
 use Rattle.reports.specs.Faults.{LeadsToFault, IsLeastFault}
-use Rattle.reports.specs.Reading.{first_fault, IsLastLayer}
-use Rattle.reports.proofs.Soundness.{IsJudged, SoundTo, fault_longer, is_fault, mark_cases, none_unsound, shorter_sound}
-use Rattle.reports.proofs.Soundness.{sound_to}
+use Rattle.reports.specs.Reading.{first_fault, IsFullAt, IsLastLayer}
+use Rattle.reports.proofs.Soundness.{IsJudged, SoundTo, expanded_unless, fault_longer, is_fault, none_unsound}
+use Rattle.reports.proofs.Soundness.{shorter_sound, sound_to}
 use Rattle.reports.proofs.Growing.{not_above, count_all, more_than}
 use Rattle.reports.proofs.Reaching.{above_more, more_above}
+use Rattle.reports.proofs.Counting.{every_counted}
+use Rattle.reports.proofs.Verdicts.{one_count}
 
 module _ {X S : Type 0} {m : StepMachine S} {same : S → S → Bool} {right : S → Finding → Type 0} {b : Contents X S}
     (judged : IsJudged m same right b) where
@@ -64,16 +68,14 @@ module _ {X S : Type 0} {m : StepMachine S} {same : S → S → Bool} {right : S
         schedule = schedule.items;
         long = refl;
         faulty = (e.finding, leads_to_fault);
-        least = (λ d faulty. elim (cases_lt (length d) (length schedule.items)) [
-          | inl l ↦ absurd (omega (arith, fault_longer judged (length d) (fault_sound (length d) l) d faulty))
-          | inr le ↦ le
-        ]);
+        least = (λ d faulty.
+            let longer : ¬ (length d < length schedule.items) =
+            λ less. omega (arith, fault_longer judged (length d) (fault_sound (length d) less) d faulty) in
+            omega arith);
       },
       within,
-      (λ J above. elim (cases_lt (length schedule.items) J) [
-        | inl l ↦ l
-        | inr le ↦ absurd (none_above last.0 J le above.above)
-      ]),
+      (λ J above.
+          let beyond : ¬ (J ≤ length schedule.items) = λ le. none_above last.0 J le above.above in omega arith),
       count_all judged.machine judged.merges judged.book.law (length schedule.items) last.0 last.1,
     )
       where
@@ -85,16 +87,14 @@ module _ {X S : Type 0} {m : StepMachine S} {same : S → S → Bool} {right : S
           fault = is_fault judged i first e at;
         }
 
-  module _ (d i : ℕ) (e : Entry S) (at_i : At b.entries i e) (taken : e.mark ≡ Taken) (xs : List (Successor S))
-      (expansion : IsExpansion m right e.state xs)
-      (full : b.limit < length b.entries + length (unknown same (states b.entries) xs)) (layer : m.steps e.state ≡ d)
+  -- an entry of layer d, for whose steps the book has no room
+  module _ (d i : ℕ) {Same : S → S → Type 0} (cut : IsFullAt m Same right b i) (layer : m.steps cut.entry.state ≡ d)
+      (full : b.limit < length b.entries + length (unknown same (states b.entries) cut.successors))
       (sound : (j : ℕ) (f : Entry S) → At b.entries j f → m.steps f.state ≤ d → is_sound f.finding ≡ true) where
     below_taken : IsExpandedBelow m.steps b.entries d
     below_taken j f at less =
-        elim (mark_cases f.mark) [
-          | inl x ↦ x
-          | inr x ↦ absurd (omega (arith, judged.book.law.least i j e f at_i taken at x))
-        ]
+        expanded_unless f.mark
+        (λ unexpanded. omega (arith, judged.book.law.least i j cut.entry f cut.at cut.taken at unexpanded))
 
     -- the states of the steps of a layer that is cut are sound
     pub stopped_sound : SoundTo m right d
@@ -107,11 +107,38 @@ module _ {X S : Type 0} {m : StepMachine S} {same : S → S → Bool} {right : S
       record {
         within = omega arith;
         above = more_above judged.machine judged.merges
-            (more_than judged.machine judged.merges judged.book.law i at_i taken expansion d (omega arith) full);
-        first = (λ j above. elim (cases_lt d j) [
-          | inl l ↦ omega arith
-          | inr le ↦ absurd (none_above below_taken j le above)
-        ]);
+            (more_than judged.machine judged.merges judged.book.law i cut.at cut.taken cut.expansion d (omega arith)
+            full);
+        first = (λ j above. let beyond : ¬ (j ≤ d) = λ le. none_above below_taken j le above in omega arith);
       },
       (λ F least. omega (arith, sound_no_fault d stopped_sound F least)),
     )
+
+  -- ---- a book in which nothing is left, by its numbers of states
+
+  module _ (n before : ℕ) (next : n ≡ before + 1) (last : IsLastLayer m.steps b.entries n) where
+    done_before : IsExpandedBelow m.steps b.entries before
+    done_before i e at less = last.0 i e at (omega arith)
+
+    -- where no entry has n steps, each is expanded
+    pub rest_worked_out : IsShallow m.steps b.entries before → IsWorkedOut b.entries
+    rest_worked_out shallow i e at = last.0 i e at (omega (arith, shallow i e at))
+
+    -- and n steps reach as many states as one fewer
+    pub rest_count : IsShallow m.steps b.entries before → IsCount m (AreOneBy same) before (length b.entries)
+    rest_count shallow = count_all judged.machine judged.merges judged.book.law before done_before shallow
+
+    -- where n steps reach as many states as one fewer, no entry has n steps
+    pub count_rest : IsCount m (AreOneBy same) before (length b.entries) → IsShallow m.steps b.entries before
+    count_rest count i e at =
+        let here =
+        count_to_is m same right judged.machine judged.merges b.entries judged.book.law before done_before
+        (λ s c leads. steps_after m judged.machine c s leads) in
+        leb-true (m.steps e.state) before (every_counted (λ (e : Entry S). leb (m.steps e.state) before) b.entries
+        (one_count judged.merges here count) i e at)
+
+    -- then every schedule reaches a sound state, if each entry is sound
+    pub rest_holds : first_fault b.entries ≡ None → IsShallow m.steps b.entries before → HoldsForEvery m right
+    rest_holds none shallow =
+        closed_holds m same right judged.machine judged.merges judged.alike b.entries judged.book.law
+        (rest_worked_out shallow) (none_unsound b.entries none)

@@ -1,7 +1,7 @@
 -- What a test that decides which states count as one finds new is what is new.
-use Rattle.std.proofs.Common.{◌≡◌, ℕ, suc, ◌+◌, ◌<◌, inl, inr, true, false, Some, List, [], ◌∷◌, ◌++◌}
-use Rattle.std.proofs.Common.{length, map, refl, sym, ap, ◌∙◌, slice_get}
-use Rattle.std.proofs.lemmas.Bool.{cases_Bool, true≢false}
+use Rattle.std.proofs.Common.{◌≡◌, ℕ, suc, ◌+◌, ◌<◌, inl, inr, true, false, Some, List, [], ◌∷◌, ◌++◌, length, map}
+use Rattle.std.proofs.Common.{refl, sym, ap, ◌∙◌, slice_get, Bool}
+use Rattle.std.proofs.lemmas.Bool.{false_from_ne_true, true_from_ne_false, true≢false, cases_Bool}
 use Rattle.tree_machine.proofs.Lists.{get-append_cases}
 use Rattle.book.specs.declared.successor.Successor.{Successor}
 use Rattle.book.specs.declared.entry.Mark.TheVariants.{Expanded}
@@ -22,22 +22,16 @@ module _ {S : Type 0} {m : StepMachine S} {Same : S → S → Type 0} (test : Is
 
   is_known : (known : List S) (s : S) → AllFit known → m.Fits s → Knows Same known s → knows test.0 known s ≡ true
   is_known known s fit fits there =
-      elim (cases_Bool (knows test.0 known s)) [
-        | inl t ↦ t
-        | inr f ↦ absurd (true≢false
-            (sym ((test.2 there.1 s (fit there.0 there.1 there.2) fits).1 there.3)
-            ∙ list_any-false (λ (r : S). test.0 r s) known f there.0 there.1 there.2))
-      ]
+      true_from_ne_false (knows test.0 known s) (λ f. true≢false
+      (sym ((test.2 there.1 s (fit there.0 there.1 there.2) fits).1 there.3)
+      ∙ list_any-false (λ (r : S). test.0 r s) known f there.0 there.1 there.2))
 
   is_unknown : (known : List S) (s : S) → AllFit known → m.Fits s → (Knows Same known s → ⊥)
       → knows test.0 known s ≡ false
   is_unknown known s fit fits new =
-      elim (cases_Bool (knows test.0 known s)) [
-        | inl t ↦ absurd (
-            let there = list_any-true (λ (r : S). test.0 r s) known t in
-            new (there.0, there.1, there.2, (test.2 there.1 s (fit there.0 there.1 there.2) fits).0 there.3))
-        | inr f ↦ f
-      ]
+      false_from_ne_true (knows test.0 known s) (λ t.
+      let there = list_any-true (λ (r : S). test.0 r s) known t in
+      new (there.0, there.1, there.2, (test.2 there.1 s (fit there.0 there.1 there.2) fits).0 there.3))
 
   one_more_fits : (known : List S) (s : S) → AllFit known → m.Fits s → AllFit (known ++ s ∷ [])
   one_more_fits known s fit fits k r at =
@@ -89,3 +83,32 @@ module _ {S : Type 0} {m : StepMachine S} {Same : S → S → Type 0} (test : Is
 
         pub count_by_test : entered ≡ length (unknown test.0 (states b.entries) xs)
         count_by_test = enters.count ∙ ap length added_by_test
+
+-- ---- two expansions of a state
+
+module _ {S : Type 0} (m : StepMachine S) (s : S) (same : S → S → Bool) where
+  -- steps of the same threads are the same, so as many of their states are not known
+  as_many : (known : List S) (xs ys : List (Successor S))
+      → map (λ (x : Successor S). x.thread) xs ≡ map (λ (x : Successor S). x.thread) ys
+      → ((k : ℕ) (x : Successor S) → slice_get xs k ≡ Some x → m.step s x.thread ≡ Some x.state)
+      → ((k : ℕ) (x : Successor S) → slice_get ys k ≡ Some x → m.step s x.thread ≡ Some x.state)
+      → length (unknown same known xs) ≡ length (unknown same known ys)
+  as_many known [] [] threads left right = refl
+  as_many known (x ∷ xs) (y ∷ ys) threads left right =
+      let thread : x.thread ≡ y.thread = cc in
+      let others : map (λ (z : Successor S). z.thread) xs ≡ map (λ (z : Successor S). z.thread) ys = cc in
+      let state : x.state ≡ y.state = cc (left 0 x refl, right 0 y refl) in
+      let rest : (seen : List S) → length (unknown same seen xs) ≡ length (unknown same seen ys) =
+      λ seen. as_many seen xs ys others (λ k z at. left (suc k) z at) (λ k z at. right (suc k) z at) in
+      elim (cases_Bool (knows same known y.state)) [
+        | inl old ↦ rw (state, old) (rest known)
+        | inr new ↦ rw (state, new) (ap suc (rest (known ++ y.state ∷ [])))
+      ]
+  as_many known _ _ threads left right = cc
+
+-- two expansions of a state have as many states that are not known
+pub same_unknown : {S : Type 0} {m : StepMachine S} {s : S} {right : S → Finding → Type 0} {xs ys : List (Successor S)}
+    (same : S → S → Bool) (known : List S) → IsExpansion m right s xs → IsExpansion m right s ys
+    → length (unknown same known xs) ≡ length (unknown same known ys)
+same_unknown {S} {m} {s} {right} {xs} {ys} same known a b =
+    as_many m s same known xs ys (a.threads ∙ sym b.threads) a.steps b.steps

@@ -1,6 +1,6 @@
 -- What the steps of one more entry show of the entries and of the number of states.
-use Rattle.std.proofs.Common.{◌≡◌, ◌≢◌, ℕ, ◌+◌, ◌<◌, ◌≤◌, inl, inr, Bool, Some, List, [], ◌∷◌, ◌++◌, length, map}
-use Rattle.std.proofs.Common.{sym, ap, ◌∙◌, arith, slice_get, length-append, leb}
+use Rattle.std.proofs.Common.{◌≡◌, ◌≢◌, ℕ, ◌+◌, ◌<◌, ◌≤◌, inl, inr, Bool, Some, List, [], ◌∷◌, ◌++◌, length, map, sym}
+use Rattle.std.proofs.Common.{ap, ◌∙◌, arith, slice_get, length-append, leb}
 use Rattle.std.proofs.Math.ListN.{length-map}
 use Rattle.std.proofs.lemmas.List.{length_push}
 use Rattle.std.proofs.lemmas.List.Sums.{count_by-le-length}
@@ -22,8 +22,7 @@ use Rattle.replay.specs.Laws.Schedules.{run_push}
 use Rattle.book.proofs.Counts.{recorded, count_is, count_to_is}
 use Rattle.book.proofs.Ways.{steps_after}
 use Rattle.reports.specs.Reading.{IsFresh}
-use Rattle.reports.proofs.Crowding.{count_above}
-use Rattle.reports.proofs.Reaching.{joined_apart}
+use Rattle.reports.proofs.Reaching.{count_above, joined_apart}
 
 pub not_expanded : (k : Mark) → k ≡ Taken → k ≢ Expanded
 not_expanded k h e = let q : Taken ≡ Expanded = sym h ∙ e in cc

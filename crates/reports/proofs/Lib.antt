@@ -1,18 +1,11 @@
-pub mod Crowding
 pub mod Counting
-pub mod Findings
 pub mod Soundness
 pub mod Growing
 pub mod Decided
 pub mod Answers
-pub mod Expansions
 pub mod Ends
 pub mod Drives
-pub mod NextEntry
-pub mod Agreeing
 pub mod Reports
-pub mod WorkedOff
 pub mod Reaching
 pub mod Verdicts
-pub mod Rest
 mod ReadOff

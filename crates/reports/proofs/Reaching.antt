@@ -1,9 +1,9 @@
 -- For each number of steps there is a number of states that they reach.
-use Rattle.std.proofs.Common.{◌≡◌, ℕ, zero, suc, ◌+◌, ◌<◌, ◌⊎◌, inl, inr, Bool, true, Option, Some, None}
-use Rattle.std.proofs.Common.{List, [], ◌∷◌, ◌++◌, length, map, refl, sym, ap, ◌∙◌, arith, slice_get}
+use Rattle.std.proofs.Common.{◌≡◌, ℕ, zero, suc, ◌+◌, ◌<◌, ◌⊎◌, inl, inr, Bool, true, Option, Some, None, List, []}
+use Rattle.std.proofs.Common.{◌∷◌, ◌++◌, length, map, refl, sym, ap, ◌∙◌, arith, slice_get, ◌≢◌, ◌≤◌}
 use Rattle.std.specs.Option.{option_and_then}
 use Rattle.std.proofs.lemmas.Bool.{true≢false, cases_eq}
-use Rattle.std.proofs.lemmas.Option.{option_and_then_some}
+use Rattle.std.proofs.lemmas.Option.{option_and_then_some, slice_get_within}
 use Rattle.tree_machine.proofs.Lists.{get-append_cases, get-append_left, get-append_right, get-map, map-get}
 use Rattle.book.specs.declared.successor.Successor.{Successor}
 use Rattle.replay.specs.declared.finding.Finding.TheVariants.{Astray}
@@ -12,7 +12,47 @@ use Rattle.book.specs.Unknown.{unknown}
 use Rattle.book.specs.Counts.{IsCount, IsMoreThan}
 use Rattle.book.proofs.Unknown.{unknown_is, unknown_apart, known_or_kept, list_any-false}
 use Rattle.reports.specs.Due.{IsAbove}
-use Rattle.reports.proofs.Crowding.{count_above}
+use Rattle.std.specs.List.{remove}
+use Rattle.std.proofs.lemmas.List.Edits.{length-remove}
+
+-- ---- states no two of which count as one are no more than states that stand for each of them
+
+module _ {S : Type 0} where
+  -- where an element goes, another is still there
+  remove_keeps : (xs : List S) (i j : ℕ) (x : S) → i ≢ j → slice_get xs j ≡ Some x
+      → (k : ℕ) × (slice_get (remove xs i) k ≡ Some x)
+  remove_keeps [] i j x other at = absurd (cc)
+  remove_keeps (w ∷ xs) zero zero x other at = absurd (other refl)
+  remove_keeps (w ∷ xs) zero (suc j) x other at = (j, at)
+  remove_keeps (w ∷ xs) (suc i) zero x other at = (0, at)
+  remove_keeps (w ∷ xs) (suc i) (suc j) x other at =
+      let r = remove_keeps xs i j x (λ e. other (ap suc e)) at in (suc r.0, r.1)
+
+module _ {S : Type 0} {m : StepMachine S} {same : S → S → Bool} (merges : Merges m same) where
+  crowd : (ys xs : List S)
+      → ((i j : ℕ) (x y : S) → slice_get ys i ≡ Some x → slice_get ys j ≡ Some y → same x y ≡ true → i ≡ j)
+      → ((j : ℕ) (y : S) → slice_get ys j ≡ Some y → (i : ℕ) × (x : S) × (slice_get xs i ≡ Some x) × (same x y ≡ true))
+      → length ys ≤ length xs
+  crowd [] xs apart covered = omega arith
+  crowd (y ∷ ys) xs apart covered =
+      let first = covered 0 y refl in
+      let rest : length ys ≤ length (remove xs first.0) = crowd ys (remove xs first.0)
+      (λ i j v w at_i at_j h. omega (arith, apart (suc i) (suc j) v w at_i at_j h))
+      (λ j w at. let c = covered (suc j) w at in
+      elim (cases_eq first.0 c.0) [
+        | inl e ↦ absurd (
+            let is : first.1 ≡ c.1 = cc (first.2, c.2) in
+            let both = merges.joined y first.1 w (merges.turned first.1 y first.3) (rw is c.3) in
+            omega (arith, apart 0 (suc j) y w refl at both))
+        | inr n ↦ (let k = remove_keeps xs first.0 c.0 c.1 n c.2 in (k.0, c.1, k.1, c.3))
+      ]) in
+      omega (arith, length-remove xs first.0 (slice_get_within xs first.0 first.1 first.2))
+
+  -- where more than l states are reached, the number of states is more than l
+  pub count_above : {n k l : ℕ} → IsCount m (AreOneBy same) n k → IsMoreThan m (AreOneBy same) n l → l < k
+  count_above count more =
+      let le = crowd more.states count.states more.apart (λ j y at. count.all y (more.reached j y at)) in
+      omega (arith, le, count.many, more.many)
 
 module _ {S : Type 0} (m : StepMachine S) (same : S → S → Bool) (merges : Merges m same) (known : List S)
     (xs : List (Successor S)) where
@@ -66,6 +106,9 @@ listed_both p q left right cases = record {
   ]);
 }
 
+listed_none : {S : Type 0} {P : S → Type 0} → ((x : S) → P x → ⊥) → Listed P
+listed_none none = record { items = []; are = (λ i x at. absurd (cc)); all = (λ x h. absurd (none x h)) }
+
 listed_one : {S : Type 0} (r : S) → Listed (λ x. r ≡ x)
 listed_one r = record {
   items = r ∷ [];
@@ -86,39 +129,28 @@ module _ {S : Type 0} (m : StepMachine S) (machine : IsMachine m) where
   abbrev ReachesBy : ℕ → S → ℕ → S → Type 0
   ReachesBy n r k x = (t : ℕ) × (u : S) × (t < k) × (m.step r t ≡ Some u) × Reaches n u x
 
-  with_thread : (n : ℕ) (r : S) (k : ℕ) (o : Option S) → m.step r k ≡ o → ((u : S) → Listed (Reaches n u))
-      → Listed (ReachesBy n r k) → Listed (ReachesBy n r (suc k))
-  with_thread n r k None is each rest = record {
-    items = rest.items;
-    are = (λ i x at. let w = rest.are i x at in (w.0, w.1, omega (arith, w.2), w.3, w.4));
-    all = (λ x w. elim (cases_eq w.0 k) [
-      | inl e ↦ absurd (cc (is, w.3, ap (m.step r) e))
-      | inr other ↦ rest.all x (w.0, w.1, omega (arith, w.2, other), w.3, w.4)
-    ]);
+  by_thread : (n : ℕ) (r : S) (k : ℕ) (o : Option S) → m.step r k ≡ o → ((u : S) → Listed (Reaches n u))
+      → Listed (λ x. (u : S) × (m.step r k ≡ Some u) × Reaches n u x)
+  by_thread n r k None is each = listed_none (λ x w. cc (is, w.1))
+  by_thread n r k (Some u) is each = record {
+    items = (each u).items;
+    are = (λ i x at. (u, is, (each u).are i x at));
+    all = (λ x w. let same_end : w.0 ≡ u = cc (is, w.1) in (each u).all x (rw same_end at w.2));
   }
-  with_thread n r k (Some u) is each rest =
-      listed_both (each u) rest
-      (λ x w. (k, u, omega arith, is, w))
+
+  by_threads : (n : ℕ) (r : S) (k : ℕ) → ((u : S) → Listed (Reaches n u)) → Listed (ReachesBy n r k)
+  by_threads n r zero each = listed_none (λ x w. omega (arith, w.2))
+  by_threads n r (suc k) each =
+      listed_both (by_thread n r k (m.step r k) refl each) (by_threads n r k each)
+      (λ x w. (k, w.0, omega arith, w.1, w.2))
       (λ x w. (w.0, w.1, omega (arith, w.2), w.3, w.4))
       (λ x w. elim (cases_eq w.0 k) [
-        | inl e ↦ inl (let same_end : w.1 ≡ u = cc (is, w.3, ap (m.step r) e) in rw same_end at w.4)
+        | inl same ↦ inl (w.1, rw same at w.3, w.4)
         | inr other ↦ inr (w.0, w.1, omega (arith, w.2, other), w.3, w.4)
       ])
 
-  by_threads : (n : ℕ) (r : S) (k : ℕ) → ((u : S) → Listed (Reaches n u)) → Listed (ReachesBy n r k)
-  by_threads n r zero each = record {
-    items = [];
-    are = (λ i x at. absurd (cc));
-    all = (λ x w. absurd (omega (arith, w.2)));
-  }
-  by_threads n r (suc k) each = with_thread n r k (m.step r k) refl each (by_threads n r k each)
-
   listed : (n : ℕ) (r : S) → Listed (Reaches n r)
-  listed zero r = record {
-    items = [];
-    are = (λ i x at. absurd (cc));
-    all = (λ x w. absurd (omega (arith, w.1)));
-  }
+  listed zero r = listed_none (λ x w. omega (arith, w.1))
   listed (suc n) r =
       listed_both (listed_one r) (by_threads n r m.threads (listed n))
       (λ x e. ([], omega arith, ap Some e))

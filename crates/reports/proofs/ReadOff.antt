@@ -1,5 +1,5 @@
 -- What is read off a lawful book: the due answer, and that it is true.
-use Rattle.std.proofs.Common.{◌≡◌, ℕ, ◌<◌, ◌≤◌, ◌∙◌, true, None, Some, List, length, refl, sym, ap}
+use Rattle.std.proofs.Common.{◌≡◌, ℕ, zero, suc, ◌<◌, ◌≤◌, ◌∙◌, true, false, None, Some, List, length, refl, sym, ap}
 use Rattle.std.proofs.Common.{arith}
 use Rattle.std.proofs.lemmas.Bool.{true≢false}
 use Rattle.std.specs.Global.{Vec}
@@ -8,7 +8,9 @@ use Rattle.tree_machine.specs.declared.state.State.{State}
 use Rattle.book.specs.declared.successor.Successor.{Successor}
 use Rattle.replay.specs.declared.finding.Finding.{Finding}
 use Rattle.book.specs.Books.{CountsAsOne, IsLawfulIn, machine_in, right_in}
-use Rattle.book.specs.Closed.{IsClosed}
+use Rattle.options.specs.declared.options.Merge.{Merge}
+use Rattle.options.specs.declared.options.Merge.TheVariants.{Names}
+use Rattle.book.specs.Closed.{IsClosed, IsWorkedOut}
 use Rattle.book.specs.Entries.{At, Contents, Enters, Entry, IsFullFor, Steps, states}
 use Rattle.replay.specs.Findings.{is_sound}
 use Rattle.book.specs.Law.{FindsAlike, IsExpansion}
@@ -19,15 +21,37 @@ use Rattle.reports.specs.Reading.{IsAtRest, IsFullIn, IsLastLayer, IsReadOff, Is
 use Rattle.reports.specs.declared.answer.Answer.{Answer}
 use Rattle.reports.specs.declared.answer.Answer.TheVariants as answer
 use Rattle.reports.specs.Due.{IsDue}
-use Rattle.reports.proofs.Agreeing.{due_as}
-use Rattle.reports.proofs.Answers.{fault_due, fault_sound, holds_due, holds_sound}
-use Rattle.reports.proofs.Answers.{stopped_due, stopped_sound}
-use Rattle.reports.proofs.Decided.{count_by_test, full_by_test}
-use Rattle.reports.proofs.Expansions.{same_unknown}
-use Rattle.reports.proofs.Findings.{findings_agree, sound_correct}
-use Rattle.reports.proofs.Rest.{count_rest, rest_count, rest_holds, rest_worked_out}
-use Rattle.reports.proofs.Soundness.{IsJudged, is_fault, sound_below}
-use Rattle.reports.proofs.WorkedOff.{at_rest, last_of_fault}
+use Rattle.reports.proofs.Verdicts.{due_as}
+use Rattle.reports.proofs.Answers.{fault_due, fault_sound, holds_due, holds_sound, stopped_due, stopped_sound}
+use Rattle.reports.proofs.Answers.{count_rest, rest_count, rest_holds, rest_worked_out}
+use Rattle.reports.proofs.Decided.{count_by_test, full_by_test, same_unknown}
+use Rattle.reports.proofs.Soundness.{IsJudged, findings_agree, is_fault, sound_below, sound_correct}
+
+-- where the layers are worked off, that of a fault is the last
+module _ {S : Type 0} (steps : S → ℕ) (es : List (Entry S)) (n : ℕ) (worked : IsWorkedOff steps es n) where
+  last_of_fault : (i : ℕ) (e : Entry S) → At es i e → is_sound e.finding ≡ false → (steps e.state ≤ n)
+      × IsLastLayer steps es (steps e.state)
+  last_of_fault i e at fault =
+      let many : ¬ (steps e.state < worked.layer) =
+      λ less. true≢false (sym (worked.stands.sound i e at less) ∙ fault) in
+      let is : steps e.state ≡ worked.layer = omega (arith, worked.stands.shallow i e at) in
+      rw is (worked.within, (worked.stands.done, worked.stands.shallow))
+
+-- where every entry is worked out too, none has n steps
+at_rest : {S : Type 0} (steps : S → ℕ) (es : List (Entry S)) (merge : Merge) (n : ℕ) → IsWorkedOff steps es n
+    → merge ≡ Names → IsWorkedOut es
+    → (start : Entry S) → At es 0 start → steps start.state ≡ 0 → IsAtRest steps es merge n
+at_rest steps es merge zero worked names out start at none =
+    absurd (worked.stands.fresh 0 start at (omega (arith, worked.within)) (out 0 start at))
+at_rest steps es merge (suc before) worked names out start at none = (
+  names,
+  before,
+  (omega arith),
+  (λ i e there.
+      let few : ¬ (before < steps e.state) = λ over. worked.stands.fresh i e there
+      (omega (arith, worked.stands.shallow i e there, worked.within)) (out i e there) in
+      omega arith),
+)
 
 -- what the law of a book says of its machine, its states and its entries
 pub record IsKnown {Machine Memory Place Form : Type 0} (rules : Machine → Rules Memory Place)
@@ -68,13 +92,10 @@ module _ {Machine Memory Place Form : Type 0} {rules : Machine → Rules Memory 
       b.limit e at known.law.within
 
   -- layer n is the last, and no entry is a fault
-  module _ (n k : ℕ) (is : k ≡ n) (none : first_fault b.entries ≡ None)
-      (layer : IsLastLayer (machine_in rules b).steps b.entries k) where
-    last : IsLastLayer (machine_in rules b).steps b.entries n
-    last = rw is at layer
-
+  module _ (n : ℕ) (none : first_fault b.entries ≡ None)
+      (last : IsLastLayer (machine_in rules b).steps b.entries n) where
     -- where the book moves on, every schedule of n steps holds
-    pub holds_read_off : (IsAtRest (machine_in rules b).steps b.entries b.merge k → ⊥) → (IsClosed b → ⊥)
+    pub holds_read_off : (IsAtRest (machine_in rules b).steps b.entries b.merge n → ⊥) → (IsClosed b → ⊥)
         → IsReadOff rules b n (answer.Holds n)
     holds_read_off moves unclosed =
         let due = holds_due judged n none last in
@@ -84,8 +105,7 @@ module _ {Machine Memory Place Form : Type 0} {rules : Machine → Rules Memory 
             due.0,
             due.1,
             due.2,
-            (λ names before next count.
-                moves (rw is (names, before, next, count_rest judged n before next last count))),
+            (λ names before next count. moves (names, before, next, count_rest judged n before next last count)),
           );
           headline = (λ schedule state short leads. sound_correct (rules b.machine) b.program state
               (holds_sound judged n none last schedule state short leads));
@@ -94,9 +114,8 @@ module _ {Machine Memory Place Form : Type 0} {rules : Machine → Rules Memory 
         }
 
     -- and where it rests, every schedule does
-    pub every_read_off : IsAtRest (machine_in rules b).steps b.entries b.merge k → IsReadOff rules b n answer.Every
-    every_read_off rests =
-        let rest = rw is at rests in
+    pub every_read_off : IsAtRest (machine_in rules b).steps b.entries b.merge n → IsReadOff rules b n answer.Every
+    every_read_off rest =
         let due = holds_due judged n none last in
         record {
           due = due_in n answer.Every
@@ -108,12 +127,12 @@ module _ {Machine Memory Place Form : Type 0} {rules : Machine → Rules Memory 
         }
 
   -- a closed book that is worked off rests
-  pub closed_rests : (n k : ℕ) → k ≡ n → IsClosed b → IsWorkedOff (machine_in rules b).steps b.entries n
-      → IsAtRest (machine_in rules b).steps b.entries b.merge k
-  closed_rests n k is closed worked =
+  pub closed_rests : (n : ℕ) → IsClosed b → IsWorkedOff (machine_in rules b).steps b.entries n
+      → IsAtRest (machine_in rules b).steps b.entries b.merge n
+  closed_rests n closed worked =
       let start = known.law.law.start in
-      rw is (at_rest (machine_in rules b).steps b.entries b.merge n worked closed.0 closed.1 start.0 start.1
-      (ap (machine_in rules b).steps start.2 ∙ known.machine.from_zero))
+      at_rest (machine_in rules b).steps b.entries b.merge n worked closed.0 closed.1 start.0 start.1
+      (ap (machine_in rules b).steps start.2 ∙ known.machine.from_zero)
 
   -- the first fault, with the schedule that is recorded of it
   module _ (id : ℕ) (first : first_fault b.entries ≡ Some id) (schedule : Vec ℕ)
@@ -142,11 +161,12 @@ module _ {Machine Memory Place Form : Type 0} {rules : Machine → Rules Memory 
     -- then the fault is the answer
     pub fault_read_off : (f : Finding)
         → (e : Entry (State Machine Memory Place Form)) × At b.entries id e × (e.finding ≡ f)
-        → (n k : ℕ) → k ≡ length schedule.items → k ≤ n → IsLastLayer (machine_in rules b).steps b.entries k
+        → (n : ℕ) → length schedule.items ≤ n
+        → IsLastLayer (machine_in rules b).steps b.entries (length schedule.items)
         → IsReadOff rules b n (answer.Fault f schedule)
-    fault_read_off f found n k is bounded layer =
+    fault_read_off f found n bounded last =
         let finding : way.0.finding ≡ f = (let one : way.0 ≡ found.0 = cc (way.1, found.1) in rw one found.2) in
-        let due = fault_due judged id first way.0 way.1 schedule way.2 way.3 b.merge n (omega arith) (rw is at layer) in
+        let due = fault_due judged id first way.0 way.1 schedule way.2 way.3 b.merge n bounded last in
         record {
           due = due_in n (answer.Fault f schedule) (rw finding at due);
           headline = record {
@@ -184,12 +204,11 @@ module _ {Machine Memory Place Form : Type 0} {rules : Machine → Rules Memory 
       (let one : full.entry ≡ way.0 = cc (full.at, way.1) in rw one (sym way.2)) in
       let over = full_by_test known.test judged.book full.expansion full.full in
       let due =
-      stopped_due judged d id full.entry full.at full.taken full.successors full.expansion over layer sound n less in
+      stopped_due judged d id full layer over sound n less in
       record {
         due = due_in n (answer.Stopped limit d) (at, due.0, due.1);
         headline = (λ schedule state short leads. sound_correct (rules b.machine) b.program state
-            (stopped_sound judged d id full.entry full.at full.taken full.successors full.expansion over layer sound
-            schedule state short leads));
+            (stopped_sound judged d id full layer over sound schedule state short leads));
         first = tt;
         closed = tt;
       }

@@ -16,8 +16,7 @@ use Rattle.reports.specs.Due.{IsDue, IsSameVerdict}
 use Rattle.reports.specs.Ledger.{ledger}
 use Rattle.reports.specs.Reading.{IsReadOff}
 use Rattle.reports.specs.Reporting.{IsBookOf, IsReport}
-use Rattle.reports.proofs.Agreeing.{due_as}
-use Rattle.reports.proofs.Verdicts.{one_verdict}
+use Rattle.reports.proofs.Verdicts.{due_as, one_verdict}
 
 -- shares that count what stands in a book sum to its totals
 sums_to : {X S : Type 0} (book : Contents X S) (each : List Share) → IsLedgerOf book (ledger each)

@@ -1,6 +1,6 @@
--- Which schedules reach sound states, from the law of the book alone.
-use Rattle.std.proofs.Common.{◌≡◌, ◌≢◌, ℕ, ◌<◌, ◌≤◌, ◌⊎◌, inl, inr, Bool, true, false, not, Option, Some, None}
-use Rattle.std.proofs.Common.{List, length, refl, sym, ap, ◌∙◌, arith, slice_get}
+-- Which schedules reach sound states, from the law of the book alone; and that findings of one state agree.
+use Rattle.std.proofs.Common.{◌≡◌, ◌≢◌, ℕ, ◌<◌, ◌≤◌, inl, inr, Bool, true, false, not, Option, Some, None}
+use Rattle.std.proofs.Common.{List, is_some, length, refl, sym, ap, ◌∙◌, arith, slice_get}
 use Rattle.std.proofs.lemmas.Bool.{true≢false, cases_lt, not-false, not-true}
 use Rattle.std.specs.Option.{option_map}
 use Rattle.replay.specs.declared.finding.Finding.{Finding}
@@ -10,17 +10,23 @@ use Rattle.replay.specs.Schedule.{AreOneBy, StepMachine, IsMachine, Merges, afte
 use Rattle.book.specs.Entries.{Entry, At, Contents}
 use Rattle.book.specs.Law.{IsLawfulBook}
 use Rattle.book.specs.Layers.{IsExpandedBelow}
-use Rattle.replay.specs.Findings.{is_sound, IsSound}
+use Rattle.replay.specs.Findings.{is_sound, IsFindingOf, IsSound}
+use Rattle.replay.specs.declared.finding.Finding.TheVariants.{Astray, Order, History, Sound}
+use Rattle.replay.specs.Correct.{IsCorrect}
+use Rattle.sched_program.specs.Program.{Program}
+use Rattle.tree_machine.specs.Rules.{Rules}
+use Rattle.tree_machine.specs.declared.state.State.{State}
 use Rattle.book.proofs.Coverage.{stands_after}
 use Rattle.book.proofs.Next.{first_passes, none_passes}
 use Rattle.book.proofs.Ways.{fits_after, steps_after}
 use Rattle.reports.specs.Faults.{IsFaulty}
 use Rattle.reports.specs.Reading.{first_fault}
 
-pub mark_cases : (k : Mark) → (k ≡ Expanded) ⊎ (k ≢ Expanded)
-mark_cases Open = inr (λ e. cc)
-mark_cases Taken = inr (λ e. cc)
-mark_cases Expanded = inl refl
+-- a mark is that of an expanded entry unless it can be shown not to be
+pub expanded_unless : (k : Mark) → (k ≢ Expanded → ⊥) → k ≡ Expanded
+expanded_unless Open not = absurd (not (λ e. cc))
+expanded_unless Taken not = absurd (not (λ e. cc))
+expanded_unless Expanded not = refl
 
 -- every schedule of at most n steps reaches a sound state
 abbrev pub SoundTo : {S : Type 0} → StepMachine S → (S → Finding → Type 0) → ℕ → Type 0
@@ -54,13 +60,11 @@ module _ {X S : Type 0} {m : StepMachine S} {same : S → S → Bool} {right : S
   -- a schedule that reaches a fault is longer than those that reach sound states
   pub fault_longer : (n : ℕ) → SoundTo m right n → (c : List ℕ) → IsFaulty m right c → n < length c
   fault_longer n sound c faulty =
-      elim (cases_lt n (length c)) [
-        | inl l ↦ l
-        | inr le ↦ absurd (
-            let leads = faulty.1 in
-            let s = sound c leads.state le leads.leads in
-            true≢false (sym (judged.agree leads.state s.0 faulty.0 s.1 leads.found s.2) ∙ leads.fault))
-      ]
+      let leads = faulty.1 in
+      let longer : ¬ (length c ≤ n) = λ le.
+      let s = sound c leads.state le leads.leads in
+      true≢false (sym (judged.agree leads.state s.0 faulty.0 s.1 leads.found s.2) ∙ leads.fault) in
+      omega arith
 
   -- where entries of at most n steps are sound, and those of fewer expanded, so are the states
   pub sound_to : (n : ℕ) → IsExpandedBelow m.steps b.entries n
@@ -95,8 +99,29 @@ module _ {X S : Type 0} {m : StepMachine S} {same : S → S → Bool} {right : S
     -- and so are the states after fewer steps
     pub shorter_sound : (n : ℕ) → n < m.steps e.state → SoundTo m right n
     shorter_sound n less = sound_to n
-        (λ j d there bounded. elim (mark_cases d.mark) [
-          | inl x ↦ x
-          | inr x ↦ absurd (omega (arith, judged.book.law.near j i d e there x at))
-        ])
+        (λ j d there bounded.
+        expanded_unless d.mark (λ unexpanded. omega (arith, judged.book.law.near j i d e there unexpanded at)))
         (λ j d there bounded. sound_below j d there (omega arith))
+
+-- ---- findings of one state agree
+
+module _ {Machine Memory Place Form : Type 0} (rules : Rules Memory Place) (program : Program) where
+  -- a state that some right finding shows sound is correct
+  pub sound_correct : (state : State Machine Memory Place Form) → IsSound (IsFindingOf rules program) state
+      → IsCorrect rules program state
+  sound_correct state (Sound order, h, sound) = (h.0, h.1, (order, h.2))
+  sound_correct state (_, h, sound) = absurd (cc)
+
+  -- and a correct state has no fault
+  pub correct_no_fault : (state : State Machine Memory Place Form) (f : Finding) → IsCorrect rules program state
+      → IsFindingOf rules program state f → is_sound f ≡ true
+  correct_no_fault state Astray correct h = absurd (true≢false (sym h ∙ ap is_some correct.0))
+  correct_no_fault state Order correct h = absurd (h.1 correct.1)
+  correct_no_fault state History correct h = absurd (h.2 correct.2)
+  correct_no_fault state (Sound order) correct h = refl
+
+  -- so the findings of one state are sound together
+  pub findings_agree : (state : State Machine Memory Place Form) (f g : Finding) → IsFindingOf rules program state f
+      → IsFindingOf rules program state g
+      → is_sound f ≡ true → is_sound g ≡ true
+  findings_agree state f g found other sound = correct_no_fault state g (sound_correct state (f, found, sound)) other

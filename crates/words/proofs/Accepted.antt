@@ -7,7 +7,8 @@ use Rattle.std.specs.Option.{option_map_or}
 use Rattle.std.specs.Str.{bytes_eq}
 use Rattle.std.proofs.lemmas.List.Folds.{list_any-append}
 use Rattle.clap.specs.Matches.{count_text}
-use Rattle.std.proofs.lemmas.Bool.{and_parts, cases_Bool, cond_both, false≢true, not-false, or_cases, or_parts, or_right}
+use Rattle.std.proofs.lemmas.Bool.{and_parts, cases_Bool, cond_both, false≢true, not-false, or_cases, or_parts}
+use Rattle.std.proofs.lemmas.Bool.{or_right}
 use Rattle.std.proofs.lemmas.Bool.Decides.{nat_tests}
 use Rattle.std.proofs.lemmas.Slice.Eq.{bytes_eq-Decides}
 use Rattle.clap.specs.Faults.{action_fault, default_fault, defaults_fault, given_default_fault, settle_fault, use_fault}
@@ -238,7 +239,8 @@ module _ (c : List Rule) (again : Bool) (regular : AreRegular c) where
           let passes = first_passes a v vs (none_of (request_kinds (action_of a)) (values_fault a (v ∷ vs)) none).1 in
           values_suit c a own.own DefaultValue (v ∷ vs) rows (λ set. (v, refl, passes)) suit
 
-  pub defaults_suit : (rules : List Rule) (rows : List Row) → AllByRecursion (IsRegular c) rules → defaults_fault rows rules ≡ []
+  pub defaults_suit : (rules : List Rule) (rows : List Row) → AllByRecursion (IsRegular c) rules
+      → defaults_fault rows rules ≡ []
       → Suit c rows
       → Suit c (fold with_default rows rules)
   unfolding defaults_fault
@@ -290,7 +292,8 @@ default_row i a rows has =
         (list_any-append (λ r. bytes_eq r.id i) rows _
         ∙ (elim (or_cases (has_row i rows) (bytes_eq a.id i && not (is_empty (v ∷ vs))) has) [
           | inl here ↦ rw here
-          | inr own ↦ or_right (has_row i rows) (bytes_eq a.id i || false) (rw (← same (not (is_empty (v ∷ vs))) own, has_id a.id))
+          | inr own ↦ or_right (has_row i rows) (bytes_eq a.id i || false)
+              (rw (← same (not (is_empty (v ∷ vs))) own, has_id a.id))
         ]))
 
 -- an argument of this id has default values
@@ -303,7 +306,8 @@ default_given i [] rows has = elim (or_cases (has_row i rows) false has) [ inl h
 default_given i (a ∷ rest) rows has = default_given i rest (with_default rows a) (grind (arith, default_row i a rows))
 
 pub given_has_row : (i : Text) (rows : List Row) → is_given i rows ≡ true → has_row i rows ≡ true
-given_has_row i rows given = any_is_found (λ r. bytes_eq r.id i) rows ∙ is_there (find (λ r. bytes_eq r.id i) rows) given
+given_has_row i rows given =
+    any_is_found (λ r. bytes_eq r.id i) rows ∙ is_there (find (λ r. bytes_eq r.id i) rows) given
   where
     is_there : (o : Option Row) → option_map_or (λ r. explicit_source r.source) o false ≡ true → is_some o ≡ true
     is_there None given = cc

@@ -3,4 +3,3 @@ mod Entered
 mod Parsed
 mod Requests
 mod Schedules
-mod Values

@@ -16,8 +16,8 @@ use Rattle.clap.specs.declared.builder.action.ArgAction.TheVariants.{Set}
 use Rattle.std.specs.List.{list_any}
 use Rattle.clap.proofs.WalkLemmas.{list_any-map}
 use Rattle.clap.proofs.ValueTestLemmas.{accepts-Accepts}
-use Rattle.clap.specs.Walk.{Row, Rule, Text, action_of, arg_by_id, nothing_held, rows_after, walk, Held, Names as SubcommandNames}
-use Rattle.clap.specs.Walk.{first_of, one_of, has_row, reading_by, settled, walk_from}
+use Rattle.clap.specs.Walk.{Row, Rule, Text, action_of, arg_by_id, nothing_held, rows_after, walk}
+use Rattle.clap.specs.Walk.{Held, Names as SubcommandNames, first_of, one_of, has_row, reading_by, settled, walk_from}
 use Rattle.clap.specs.declared.builder.value_parser.ValueParser.TheVariants.{Names, Unsigned}
 use Rattle.options.specs.declared.options.Merge.{Merge}
 use Rattle.options.specs.declared.options.Merge.TheVariants as merge

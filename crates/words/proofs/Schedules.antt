@@ -5,7 +5,7 @@ use Rattle.std.specs.List.{All}
 use Rattle.std.proofs.Math.Seq.{get_or-append_seam}
 use Rattle.std.proofs.lemmas.Bool.Decides.{nat_tests}
 use Rattle.std.proofs.lemmas.List.{take_rest}
-use Rattle.std.proofs.lemmas.List.Elements.{All-append, All-cons, All-nil}
+use Rattle.std.proofs.lemmas.List.Elements.{All-push}
 use Rattle.std.specs.Prelude.{Bool, true, false, Option, MatchOption, ◌==◌}
 use Rattle.std.specs.Bool.{then_some}
 use Rattle.words.specs.Schedule.{IsSchedule, commaed, digit, schedule_text}
@@ -26,16 +26,12 @@ commaed-push : (threads : List ℕ) (t : ℕ) → commaed (threads ++ t ∷ []) 
 commaed-push [] t = refl
 commaed-push (x ∷ threads) t = ap (λ l. 44 ∷ digit x ∷ l) (commaed-push threads t)
 
-all_one : (t : ℕ) → t < 10 → All (λ t. t < 10) (t ∷ [])
-all_one t h = All-cons (λ t. t < 10) t [] h (All-nil (λ t. t < 10))
-
 front : (rest : List ℕ) → Follows rest → rest ≡ 44 ∷ digit (at rest 1 - 48) ∷ drop 2 rest
-front [] f = absurd (omega (arith, f.0))
-front (x ∷ []) f = absurd (omega (arith, f.0))
 front (x ∷ y ∷ rest) f =
     let second : digit (y - 48) ≡ y = omega (arith, f.2, f.3) in
     let first : x ≡ 44 = f.1 in
     rw (first, second) refl
+front _ f = absurd (omega (arith, f.0))
 
 pub read_more : (text threads rest : List ℕ) → HasRead text threads rest → Follows rest → length threads < 400
     → HasRead text (threads ++ (at rest 1 - 48) ∷ []) (take (length rest - 2) (drop 2 rest))
@@ -44,7 +40,7 @@ read_more text (x ∷ threads) rest h f bounded =
     let t = at rest 1 - 48 in
     let split : text ≡ schedule_text (x ∷ threads) ++ (44 ∷ digit t ∷ drop 2 rest) = rw (← front rest f) h.0 in (
       rw (take_rest rest 2, commaed-push threads t) (simp append_assoc split),
-      All-append (λ t. t < 10) (x ∷ threads) (t ∷ []) h.1 (all_one t (omega (arith, f.2, f.3))),
+      All-push (λ t. t < 10) (x ∷ threads) t h.1 (omega (arith, f.2, f.3)),
       simp length-append (omega arith),
       simp length-append (omega arith),
     )
@@ -90,14 +86,10 @@ too_long text threads rest h some many others is = none (schedule_left text thre
     none ([], (split, left)) = absurd (omega (arith, ap length left))
     none (t ∷ more, (split, left)) = absurd (omega (arith, is.2, simp length-append at (ap length split)))
 
-pub ends : (text threads rest : List ℕ) → HasRead text threads rest → length rest ≡ 0 → IsSchedule text threads
-ends text threads [] h e = (h.0 ∙ append-nil (schedule_text threads), h.1, h.2)
-ends text threads (x ∷ rest) h e = absurd (omega arith)
-
 module _ {V : Type 0} (items : V → List ℕ) (v : V) (text : List ℕ) where
   pub judged : (rest : List ℕ) → HasRead text (items v) rest → (Follows rest → ⊥) → (b : Bool) → b ≡ (length rest == 0)
       → (r : Option V) → r ≡ then_some b v
       → MatchOption r ((threads : List ℕ) → IsSchedule text threads → ⊥) (λ v. IsSchedule text (items v))
-  judged [] h not b e r is = rw (is, e) (ends text (items v) [] h refl)
+  judged [] h not b e r is = rw (is, e) (h.0 ∙ append-nil (schedule_text (items v)), h.1, h.2)
   judged (x ∷ rest) h not true e r is = absurd (grind (arith, nat_tests))
   judged (x ∷ rest) h not false e r is = rw is (strays text (items v) (x ∷ rest) h (omega arith) not)

@@ -1,7 +1,7 @@
 -- What labels tell of alike states.
-use Rattle.std.proofs.Common.{◌≡◌, ℕ, suc, ◌+◌, ◌<◌, inl, inr, Some, Option, List, length, Contains, refl}
+use Rattle.std.proofs.Common.{◌≡◌, ℕ, suc, ◌+◌, ◌<◌, inr, Some, Option, List, length, Contains, refl}
 use Rattle.std.proofs.Common.{arith, slice_get}
-use Rattle.std.proofs.lemmas.Bool.{cases_lt}
+use borrow.Author.Count.{below_more}
 use Rattle.std.proofs.lemmas.Option.{slice_get_within}
 use Rattle.lin.proofs.Lists.{Contains-slice_get, slice_get-Contains}
 use Rattle.sched_program.specs.Program.{Program, IsWithinLimits}
@@ -30,30 +30,16 @@ use Rattle.replay.proofs.BookFile.Twins.{one_label, step_there, turned}
 abbrev pub AreKnownBelow : {Machine Memory Place Form : Type 0} (rules : Rules Memory Place) (program : Program)
     (label_of : State Machine Memory Place Form → List ℕ) (lines : List BookLine) (labels : List (List ℕ)) → ℕ → Type 0
 AreKnownBelow {Machine} {Memory} {Place} {Form} rules program label_of lines labels n =
-    (states : List (State Machine Memory Place Form)) → AreReplayed rules program lines states → (i : ℕ)
-    (s : State Machine Memory Place Form) → i < n → slice_get states i ≡ Some s
+    (states : List (State Machine Memory Place Form)) → AreReplayed rules program lines states → (i : ℕ) → i < n
+    → (s : State Machine Memory Place Form) → slice_get states i ≡ Some s
     → AreStepsKnown rules program label_of labels s
 
--- the label of each step of a thread below n is known
-abbrev pub AreStepsKnownBelow : {Machine Memory Place Form : Type 0} (rules : Rules Memory Place) (program : Program)
+-- the label of a thread's step is known
+abbrev pub IsStepKnown : {Machine Memory Place Form : Type 0} (rules : Rules Memory Place) (program : Program)
     (label_of : State Machine Memory Place Form → List ℕ) (labels : List (List ℕ))
     (s : State Machine Memory Place Form) → ℕ → Type 0
-AreStepsKnownBelow {Machine} {Memory} {Place} {Form} rules program label_of labels s n =
-    (t : ℕ) (next : State Machine Memory Place Form) → t < n → step rules program s t ≡ Some next
-    → Contains labels (label_of next)
-
--- one more thread was tried
-pub one_more_thread : {Machine Memory Place Form : Type 0} (rules : Rules Memory Place) (program : Program)
-    (label_of : State Machine Memory Place Form → List ℕ) (labels : List (List ℕ))
-    (s : State Machine Memory Place Form) (n : ℕ)
-    → ((next : State Machine Memory Place Form) → step rules program s n ≡ Some next → Contains labels (label_of next))
-    → AreStepsKnownBelow rules program label_of labels s n
-    → AreStepsKnownBelow rules program label_of labels s (n + 1)
-one_more_thread rules program label_of labels s n last so t next less leads =
-    elim (cases_lt t n) [
-      | inl l ↦ so t next l leads
-      | inr ge ↦ (let e : t ≡ n = omega arith in last next (rw (← e) leads))
-    ]
+IsStepKnown {Machine} {Memory} {Place} {Form} rules program label_of labels s t =
+    (next : State Machine Memory Place Form) → step rules program s t ≡ Some next → Contains labels (label_of next)
 
 module _ {Machine Memory Place Form : Type 0} {rules : Rules Memory Place} {program : Program}
     (lawful : AreLawful rules) (limits : IsWithinLimits program) {form_of : Memory → List (Option Place) → Form}
@@ -75,16 +61,12 @@ module _ {Machine Memory Place Form : Type 0} {rules : Rules Memory Place} {prog
   pub known_next : (lines : List BookLine) (labels : List (List ℕ)) (i : ℕ) (c : State Machine Memory Place Form)
       → StandsForEntry rules program lines i c → AreStepsKnown rules program label labels c
       → AreKnownBelow rules program label lines labels i → AreKnownBelow rules program label lines labels (i + 1)
-  known_next lines labels i c stands known so states replayed j r below at =
-      elim (cases_lt j i) [
-        | inl l ↦ so states replayed j r l at
-        | inr ge ↦ (
-            let place : j ≡ i = omega arith in
-            let w = stands states replayed in
-            let same : r ≡ w.0 = cc (w.1) in
-            let fits : Fits rules program r = each_fits lawful limits lines states replayed j r at in
-            twin_known labels {most = i} fits (rw same w.2) known)
-      ]
+  known_next lines labels i c stands known so states replayed =
+      below_more (λ j. (r : State Machine Memory Place Form) → slice_get states j ≡ Some r
+      → AreStepsKnown rules program label labels r) i (so states replayed) (λ r at.
+      let w = stands states replayed in
+      let same : r ≡ w.0 = cc (w.1) in
+      twin_known labels {most = i} (each_fits lawful limits lines states replayed i r at) (rw same w.2) known)
 
   module _ {lines : List BookLine} {labels : List (List ℕ)} (kept : AreLabelsOf rules program label lines labels) where
     abbrev states : List (State Machine Memory Place Form)
@@ -153,7 +135,7 @@ module _ {Machine Memory Place Form : Type 0} {rules : Rules Memory Place} {prog
               );
               first = (λ j r below at out_of_r. out_of_r.3 (known_alike out_of_r.1
                   ((machine lawful limits).step_fits r out_of_r.1 out_of_r.0 (fit j r at) out_of_r.2)
-                  (so states kept.replayed j r below at out_of_r.0 out_of_r.1 out_of_r.2)));
+                  (so states kept.replayed j below r at out_of_r.0 out_of_r.1 out_of_r.2)));
             },
           )
 
@@ -169,6 +151,6 @@ module _ {Machine Memory Place Form : Type 0} {rules : Rules Memory Place} {prog
               let less : i < length labels =
               omega (arith, slice_get_within states i s at, same_count kept states kept.replayed) in
               known_alike r ((machine lawful limits).step_fits s r t (fit i s at) leads)
-              (so states kept.replayed i s less at t r leads));
+              (so states kept.replayed i less s at t r leads));
         },
       )

@@ -8,6 +8,7 @@ use Rattle.tree_machine.specs.declared.state.State.{State}
 use Rattle.tree_machine.proofs.Alike.{alike_history}
 use Rattle.tree_machine.proofs.Forms.{alike_through}
 use Rattle.replay.specs.Findings.{machine_of}
+use Rattle.replay.specs.Schedule.{IsMachine}
 use Rattle.replay.specs.Closed.{AreClosed}
 use Rattle.replay.specs.Correct.{IsCorrect, HoldsAlways}
 use Rattle.replay.specs.Laws.Schedules.{covered}
@@ -38,6 +39,9 @@ module _ {Machine Memory Place Form : Type 0} (rules : Rules Memory Place) (prog
 module _ {Machine Memory Place Form : Type 0} {rules : Rules Memory Place} {program : Program}
     (lawful : AreLawful rules) (limits : IsWithinLimits program) {form_of : Memory → List (Option Place) → Form}
     (forms : AreFormsExact rules form_of) where
+  runs : IsMachine (machine_of {Machine = Machine} {Form = Form} rules program)
+  runs = machine lawful limits
+
   twins_joined : (r s u : State Machine Memory Place Form) → AreTwins rules program r s → AreTwins rules program s u
       → AreTwins rules program r u
   twins_joined r s u a b =
@@ -55,35 +59,16 @@ module _ {Machine Memory Place Form : Type 0} {rules : Rules Memory Place} {prog
       → AreClosed (machine_of rules program) (AreTwins rules program) states
   twins_closed states closed = record {
     fit = closed.fit;
-    start = (let s = closed.start in (
-      s.0,
-      s.1,
-      s.2,
-      (
-        closed.fit s.0 s.1 s.2,
-        (machine lawful limits).start_fits,
-        s.3,
-      ),
-    ));
+    start = (let s = closed.start in (s.0, s.1, s.2, (closed.fit s.0 s.1 s.2, runs.start_fits, s.3)));
     steps = (λ i t s r at leads.
-        let w = closed.steps i t s r at leads in (
-          w.0,
-          w.1,
-          w.2,
-          (
-            closed.fit w.0 w.1 w.2,
-            (machine lawful limits).step_fits s r t
-                (closed.fit i s at) leads,
-            w.3,
-          ),
-        ));
+        let w = closed.steps i t s r at leads in
+        (w.0, w.1, w.2, (closed.fit w.0 w.1 w.2, runs.step_fits s r t (closed.fit i s at) leads, w.3)));
   }
 
   pub passing_holds : (lines : List BookLine) → Pass Machine Form rules program lines
       → HoldsAlways Machine Form rules program
   passing_holds lines pass schedule state leads =
-      let w = covered (machine_of rules program) (machine lawful limits)
-      (AreTwins rules program) twins_joined twins_step pass.0
+      let w = covered (machine_of rules program) runs (AreTwins rules program) twins_joined twins_step pass.0
       (twins_closed pass.0 pass.2) schedule state leads in
       let correct = replayed_correct rules program lines pass.0 pass.1 w.0 w.1 w.2 in
       let well = well_there lawful program w.3.2 (correct.0, correct.1) in

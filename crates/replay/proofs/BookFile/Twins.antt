@@ -115,8 +115,8 @@ module _ {Machine Memory Place Form : Type 0} {rules : Rules Memory Place} {prog
   module _ (limits : IsWithinLimits program) (lines : List BookLine) (index : ℕ) where
     -- what is read from the label of an entry stands in for its state
     pub read_stands_for : (code : Form → List ℕ) {labels : List (List ℕ)}
-        → AreLabelsOf {Machine = Machine} rules program (named_by code form_of) lines labels → (label : List ℕ)
-        (twin : State Machine Memory Place Form) → slice_get labels index ≡ Some label
+        → AreLabelsOf {Machine = Machine} rules program (named_by code form_of) lines labels
+        → (label : List ℕ) (twin : State Machine Memory Place Form) → slice_get labels index ≡ Some label
         → ((s : State Machine Memory Place Form) → AreNumbersInRange rules s → label ≡ named_by code form_of s
         → AreStatesAlike rules s twin × ((p : Program) → Fits rules p s → Fits rules p twin) × (twin.steps ≡ 0))
         → StandsForEntry rules program lines index twin

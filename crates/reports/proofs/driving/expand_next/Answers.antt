@@ -3,8 +3,8 @@ use Rattle.book.specs.Books.{machine_in, right_in}
 use Rattle.replay.specs.Schedule.{AreOneBy}
 use Rattle.book.proofs.Agreeing.{book_back}
 use Rattle.book.proofs.Growth.{one_is_next}
-use Rattle.reports.proofs.NextEntry.{IsNext, there_it_is, its_own, ledger_of_refused, cut_of_full, one_more, in_layer}
-use Rattle.reports.proofs.NextEntry.{ledger_of_entered}
+use Rattle.reports.proofs.Drives.{IsNext, there_it_is, its_own, ledger_of_refused, cut_of_full, one_more, in_layer}
+use Rattle.reports.proofs.Drives.{ledger_of_entered}
 use Rattle.reports.proofs.driving.expand_next.Given.{Over}
 use Rattle.reports.proofs.driving.expand_next.Goals.{After-enter}
 use Rattle.reports.proofs.driving.expand_next.Goals as goal

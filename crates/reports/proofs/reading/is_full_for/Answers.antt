@@ -1,7 +1,7 @@
 use Rattle.std.proofs.Common.{◌∙◌, ap, arith, sym, rules}
 use Rattle.tree_machine.specs.declared.state.State.{State}
 use Rattle.book.specs.Entries.{IsOwn}
-use Rattle.reports.proofs.Expansions.{expansion_in, own_of}
+use Rattle.reports.proofs.Drives.{expansion_in, own_of}
 use Rattle.reports.proofs.ReadOff.{IsKnown, entry_steps, not_entered}
 use Rattle.reports.proofs.reading.is_full_for.Given.{Over}
 use Rattle.reports.proofs.reading.is_full_for.Goals.{After-enter}

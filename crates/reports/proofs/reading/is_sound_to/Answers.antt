@@ -1,5 +1,5 @@
-use Rattle.std.proofs.Common.{◌≡◌, ◌∙◌, sym, inl, inr, length, arith, refl, rules}
-use Rattle.std.proofs.lemmas.Bool.{ltb-true, lt-ltb, cases_lt}
+use Rattle.std.proofs.Common.{◌≡◌, ◌∙◌, ◌≤◌, sym, length, arith, refl, rules}
+use Rattle.std.proofs.lemmas.Bool.{ltb-true, lt-ltb}
 use Rattle.reports.proofs.ReadOff.{IsKnown, sound_before, unsound_from}
 use Rattle.reports.proofs.Soundness.{none_unsound}
 use Rattle.reports.proofs.reading.is_sound_to.Goals as goal
@@ -19,8 +19,8 @@ returns-in_ok-schedule_of-in-Some g c =
     let long : c.len.result ≡ length v.items = c.len.ensures ∙ v.ok.0 in (
       (λ h. sound_before known c.in-Some.id first v way c.args.steps
           (omega (arith, ltb-true c.args.steps c.len.result h))),
-      (λ sound. elim (cases_lt c.args.steps c.len.result) [
-        | inl l ↦ lt-ltb c.args.steps c.len.result l
-        | inr ge ↦ absurd (unsound_from known c.in-Some.id first v way c.args.steps (omega arith) sound)
-      ]),
+      (λ sound.
+          let less : ¬ (c.len.result ≤ c.args.steps) =
+          λ ge. unsound_from known c.in-Some.id first v way c.args.steps (omega arith) sound in
+          lt-ltb c.args.steps c.len.result (omega arith)),
     )

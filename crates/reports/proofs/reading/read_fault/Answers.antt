@@ -23,7 +23,7 @@ pub returns-clause-read_off : goal.returns-clause-read_off
 returns-clause-read_off g c =
     let known : IsKnown g.M.Machine.rules c.args.book.now = search rules in
     let v = c.in_ok-schedule.schedule in
+    let is : c.len-length.result ≡ length v.items = c.len-length.ensures ∙ v.ok.0 in
     fault_read_off known c.args.id c.requires v c.in_ok-schedule.ensures.leads _ c.fault_at-finding.ensures
-    c.args.steps c.len-length.result (c.len-length.ensures ∙ v.ok.0)
-    (omega (arith, c.if-length-from.false, c.from.ensures))
-    (c.is_last_layer.ensures.0 c.if-not-is_last_layer.false)
+    c.args.steps (omega (arith, c.if-length-from.false, c.from.ensures))
+    (rw is at (c.is_last_layer.ensures.0 c.if-not-is_last_layer.false))

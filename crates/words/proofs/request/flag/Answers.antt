@@ -1,7 +1,7 @@
 use Rattle.std.specs.declared.str.ParseBoolError.{ParseBoolError}
 use Rattle.clap.specs.Words.{found_of, one_text, rows_of}
 use Rattle.clap.proofs.WalkLemmas.{one_text-rows}
-use Rattle.words.proofs.Values.{flag_read}
+use Rattle.words.proofs.Requests.{flag_read}
 use Rattle.words.proofs.request.flag.Goals as goal
 
 pub returns : goal.returns

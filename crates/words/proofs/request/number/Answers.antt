@@ -1,7 +1,7 @@
 use Rattle.std.specs.Str.Parse.{ParsesUnsigned, ExplainsUnsignedError, HasUnsignedDigitsIfOk}
 use Rattle.clap.specs.Words.{found_of, one_text, rows_of}
 use Rattle.clap.proofs.WalkLemmas.{one_text-rows}
-use Rattle.words.proofs.Values.{number_read}
+use Rattle.words.proofs.Requests.{number_read}
 use Rattle.words.proofs.request.number.Goals as goal
 
 pub returns : goal.returns

@@ -1,7 +1,8 @@
 use Rattle.std.proofs.Common.{◌≡◌, ◌<◌, ◌≤◌, length, ap, arith, ◌∙◌}
+use borrow.Author.Count.{below_more}
 use Rattle.tree_machine.specs.Step.{step}
 use Rattle.replay.specs.Labels.{named_by}
-use Rattle.replay.proofs.BookFile.Known.{line_known, one_more_thread}
+use Rattle.replay.proofs.BookFile.Known.{IsStepKnown, line_known}
 use Rattle.replay.proofs.BookFile.Replayed.{count_labels, machine}
 use Rattle.replay.proofs.file.closing.leads_out.Goals as goal
 
@@ -26,13 +27,12 @@ loop-thread-preserved-then-has_step g c =
     let state = c.args.replayer.now.state in
     let stated = c.has_step.ensures c.if-has_step.true in (
       c.loop-thread.invariant.0,
-      one_more_thread rules input.program.now
-          (named_by g.M.Encode.form_code (g.M.Machine.form_of input.machine)) c.args.labels.now state
-          c.loop-thread.thread
+      below_more (IsStepKnown rules input.program.now
+          (named_by g.M.Encode.form_code (g.M.Machine.form_of input.machine)) c.args.labels.now state)
+          c.loop-thread.thread c.loop-thread.invariant.1
           (λ next leads. line_known (bound.lawful input.machine) c.threads.ensures.limits (bound.forms input.machine)
           g.M.Encode.form_code c.requires.kept c.loop-thread.next stated.0 stated.1 state
-          (rw stated.2 c.requires.stands) next (ap (step rules input.program.now state) stated.3 ∙ leads))
-          c.loop-thread.invariant.1,
+          (rw stated.2 c.requires.stands) next (ap (step rules input.program.now state) stated.3 ∙ leads)),
       c.loop-thread.invariant.2,
     )
 
@@ -43,10 +43,9 @@ returns-clause-none g c =
     let least : length c.threads.result.now ≤ c.loop-thread.thread = c.loop-thread-test.false in
     let all : length c.threads.result.now ≡ length input.program.now.threads = ap length c.threads.ensures.value in
     λ _ t next leads.
-    let runs = (machine (bound.lawful input.machine) c.threads.ensures.limits).is_thread c.args.replayer.now.state
-    next t
-    leads in
-    c.loop-thread.invariant.1 t next (omega arith) leads
+    let thread =
+    (machine (bound.lawful input.machine) c.threads.ensures.limits).is_thread c.args.replayer.now.state next t leads in
+    c.loop-thread.invariant.1 t (omega arith) next leads
 
 pub returns-then-not-branch-clause-out : goal.returns-then-not-branch-clause-out
 returns-then-not-branch-clause-out g c =

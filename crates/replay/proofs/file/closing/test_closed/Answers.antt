@@ -40,4 +40,4 @@ returns-clause-pass g c =
     let input = c.args.input.now in
     known_closed (bound.lawful input.machine) c.initial.ensures.limits (bound.forms input.machine)
     g.M.Encode.form_code c.requires.kept coding.form_tells
-    (λ states so i s less at. c.loop-i.invariant.0 states so i s (omega arith) at)
+    (λ states so i less s at. c.loop-i.invariant.0 states so i (omega arith) s at)

@@ -1,4 +1,4 @@
-use Rattle.std.proofs.Common.{◌≡◌, ◌+◌, ◌-◌, ◌≤◌, length, get_or, arith, inl, inr}
+use Rattle.std.proofs.Common.{◌≡◌, ◌≤◌, length, get_or, arith, inl, inr}
 use Rattle.std.proofs.lemmas.Bool.Decides.{nat_tests}
 use Rattle.replay.proofs.Text.Numbers.{read_none, read_digit, read_number, no_number}
 use Rattle.replay.proofs.file.reading.number_of.Goals as goal
