@@ -22,6 +22,7 @@ pub mod Graphs
 pub mod InitialKeys
 pub mod MetLists
 pub mod Packed
+pub mod PairedRange
 pub mod PartCells
 pub mod PartForms
 pub mod PartsBy

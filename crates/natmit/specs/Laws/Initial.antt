@@ -1,46 +1,55 @@
 -- The initial memory has its numbers in range, and keeps search order.
 use Rattle.std.specs.Prelude.{◌≡◌, ◌≢◌, ℕ, zero, suc, ◌<◌, ◌≤◌, Bool, true, false, nat_lt, if◌then◌else◌, List, []}
-use Rattle.std.specs.Prelude.{◌∷◌, length, fold, refl, Option, Some, None, unwrap_or, slice_get}
+use Rattle.std.specs.Prelude.{◌∷◌, length, fold, refl, Option, Some, None, IfSome, unwrap_or, slice_get}
 use Rattle.std.specs.Option.{option_map}
-use Rattle.std.proofs.Common.{arith, sym, ap, subst, ◌⊎◌, inl, length-append}
+use Rattle.std.proofs.Common.{arith, sym, ◌∙◌, ap, ◌⊎◌, inl, length-append}
 use Rattle.std.proofs.lemmas.List.{length-set}
-use Rattle.std.proofs.lemmas.List.Elements.{All-from_recursion, All-weaker}
+use Rattle.std.proofs.lemmas.List.Elements.{All-nil, All-from_recursion, All-weaker}
 use Rattle.std.proofs.lemmas.Option.{same_Some}
 use Rattle.sched_program.specs.Program.{IsUserKey, AreInitialKeys}
 use Rattle.tree_machine.specs.declared.search_order.Side.{Side}
 use Rattle.tree_machine.specs.declared.search_order.Side.TheVariants.{Left, Right}
+use Rattle.tree_machine.specs.declared.search_order.End.{End}
 use Rattle.tree_machine.specs.declared.search_order.Shape.{Shape}
 use Rattle.tree_machine.specs.declared.search_order.Shape.TheVariants as shape
+use Rattle.tree_machine.specs.Pairing.{IsAmong}
 use Rattle.tree_machine.specs.SearchOrder.{KeepsSearchOrder, went_down, end_of}
 use Rattle.tree_machine.specs.Laws.Decoded.{map_some}
+use Rattle.tree_machine.proofs.Lists.{at_all}
 use Rattle.tree_machine.proofs.Inserted.{key_of, over_child, put_over}
 use Rattle.tree_machine.specs.Laws.InitialKeys.{IsPutIn, stays_ordered}
 use Rattle.natmit.specs.declared.memory.Node.{Node}
 use Rattle.natmit.specs.declared.memory.Node.TheVariants.{Leaf, Internal}
 use Rattle.natmit.specs.declared.memory.NatMitMem.{NatMitMem}
 use Rattle.natmit.specs.Memory.{plain, key_in, shape_in, shapes, with_word, node_at, key_at, side_at, internal_over}
-use Rattle.natmit.specs.Memory.{with_internal, new_internal}
+use Rattle.natmit.specs.Memory.{with_internal, new_internal, set_word}
 use Rattle.natmit.specs.Initial.{empty_tree, put_in, initial_memory}
-use Rattle.natmit.specs.Range.{IsNodeIn, IsInRange}
-use Rattle.natmit.specs.Laws.Range.{either, node_in, set_word_in, two_more, with_internal_in}
+use Rattle.natmit.specs.Range.{IsNodeIn, IsInRange, IsPlaceInRange}
+use Rattle.natmit.specs.Laws.PairedAccesses.{set_word_paired}
+use Rattle.natmit.specs.Laws.PairedAppends.{with_two_new, internals_paired, two_new}
+use Rattle.natmit.specs.Laws.Range.{self_paired, whole_in_range}
 
 -- ---- where a search ends
 
 module _ (shapes : ℕ → Option Shape) (n k : ℕ)
     (closed : (x m l r : ℕ) → shapes x ≡ Some (shape.Internal m l r) → (l < n) × (r < n)) where
-  leaf_at : (levels parent x : ℕ) (o : Option Shape) → shapes x ≡ o
-      → ((parent x : ℕ) → x < n → (end_of shapes k levels parent x).leaf < n)
-      → x < n → (went_down k (end_of shapes k levels x) (record { parent = parent; leaf = x }) o).leaf < n
-  leaf_at levels parent x None e f below = below
-  leaf_at levels parent x (Some (shape.Leaf j)) e f below = below
-  leaf_at levels parent x (Some (shape.Internal m l r)) e f below =
+  abbrev IsEndIn : End → Type 0
+  IsEndIn end = (end.parent < n) × (end.leaf < n)
+
+  end_at : (levels parent x : ℕ) (o : Option Shape) → shapes x ≡ o
+      → ((y : ℕ) → y < n → IsEndIn (end_of shapes k levels x y)) → parent < n → x < n
+      → IsEndIn (went_down k (end_of shapes k levels x) (record { parent = parent; leaf = x }) o)
+  end_at levels parent x None e f above below = (above, below)
+  end_at levels parent x (Some (shape.Leaf j)) e f above below = (above, below)
+  end_at levels parent x (Some (shape.Internal m l r)) e f above below =
       let both = closed x m l r e in
-      f x (if nat_lt k m then l else r)
+      f (if nat_lt k m then l else r)
       (elim (nat_lt k m) as (λ b. (if b then l else r) < n) [ true ↦ both.0 | false ↦ both.1 ])
 
-  leaf_below : (levels parent x : ℕ) → x < n → (end_of shapes k levels parent x).leaf < n
-  leaf_below zero parent x below = below
-  leaf_below (suc levels) parent x below = leaf_at levels parent x (shapes x) refl (leaf_below levels) below
+  end_in : (levels parent x : ℕ) → parent < n → x < n → IsEndIn (end_of shapes k levels parent x)
+  end_in zero parent x above below = (above, below)
+  end_in (suc levels) parent x above below =
+      end_at levels parent x (shapes x) refl (λ y. end_in levels x y below) above below
 
 -- ---- search order
 
@@ -61,15 +70,14 @@ module _ (k j n l : ℕ) where
   over_is true = refl
   over_is false = refl
 
-  no_leaf : (i : ℕ) → shape_in (internal_over k j n l) ≡ shape.Leaf i → ⊥
-  no_leaf i =
-      either (λ node. shape_in node ≡ shape.Leaf i → ⊥) (nat_lt k j) (Internal j (plain n) (plain l))
-      (Internal k (plain l) (plain n)) (λ e. cc) (λ e. cc)
+  no_leaf : (b : Bool) (i : ℕ) → (if b then shape.Internal j n l else shape.Internal k l n) ≡ shape.Leaf i → ⊥
+  no_leaf true i e = cc
+  no_leaf false i e = cc
 
   new_leaves : (i x : ℕ) → option_map shape_in (slice_get (Leaf k ∷ internal_over k j n l ∷ []) x) ≡ Some (shape.Leaf i)
       → (i ≡ k) ⊎ (i ≡ j)
   new_leaves i zero e = inl cc
-  new_leaves i (suc zero) e = absurd (no_leaf i (same_Some _ _ e))
+  new_leaves i (suc zero) e = absurd (no_leaf (nat_lt k j) i (sym (over_is (nat_lt k j)) ∙ same_Some _ _ e))
   new_leaves i (suc (suc x)) e = cc
 
 puts : (memory : NatMitMem) (k : ℕ) → IsPutIn (shapes memory) (shapes (put_in memory k)) k
@@ -121,7 +129,8 @@ closed : (memory : NatMitMem) → IsInRange memory → (x m l r : ℕ) → shape
 closed memory h x m l r e =
     let t = map_some shape_in (slice_get memory.nodes x) (shape.Internal m l r) e in
     let same : node_at memory x ≡ t.0 = ap (λ o. unwrap_or o (Leaf 0)) t.1 in
-    children t.0 m l r (subst (IsNodeIn (length memory.nodes)) same (node_in memory x h)) (sym t.2)
+    let node = at_all (IsNodeIn (length memory.nodes)) memory.nodes x (Leaf 0) h.nodes tt in
+    children t.0 m l r (rw same at node) (sym t.2)
   where
     children : (node : Node) (m l r : ℕ) → IsNodeIn (length memory.nodes) node → shape_in node ≡ shape.Internal m l r
         → (l < length memory.nodes) × (r < length memory.nodes)
@@ -138,10 +147,21 @@ put_in_range memory k h =
     let n = length memory.nodes in
     let end = end_of (shapes memory) k n 0 0 in
     let some = h.first_nodes in
-    let more = two_more memory k end.leaf in
-    let leaf = leaf_below (shapes memory) n k (closed memory h) n 0 0 (omega arith) in
-    set_word_in (with_internal memory k end.leaf) end.parent (side_at k memory end.parent) (plain (new_internal memory))
-    (with_internal_in memory k end.leaf h leaf) (omega arith)
+    let ends = end_in (shapes memory) n k (closed memory h) n 0 0 (omega arith) (omega arith) in
+    let self = self_paired memory [] h (All-nil (λ place. IfSome place (IsPlaceInRange memory))) in
+    let parent = self.1 end.parent ends.0 in
+    let leaf = self.1 end.leaf ends.1 in
+    let p = self.0 in
+    let q = with_two_new p memory memory k in
+    let more = two_new p memory memory self.2 k end.leaf leaf.0 leaf.1 in
+    let side = side_at k memory end.parent in
+    let word = plain (new_internal memory) in
+    (whole_in_range q (put_in memory k) (set_word (with_internal memory k leaf.0) parent.0 side word) [] []
+    (rw length-set (more.whole self.1))
+    (set_word_paired (IsAmong q.nodes) (with_internal memory k end.leaf) (with_internal memory k leaf.0)
+    more.memories_paired end.parent parent.0 side side word word (more.extends.nodes _ _ parent.1) refl
+    (refl, refl, internals_paired p memory memory k))
+    tt).0
 
 empty_in_range : IsInRange empty_tree
 empty_in_range =

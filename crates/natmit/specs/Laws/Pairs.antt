@@ -48,5 +48,5 @@ natmit_pairs_lawful machine = record {
   first_paired = λ op p memory twin h. tt;
   places_extend = λ p q place twin more g. places_extend (IsAmong p.nodes) (IsAmong q.nodes) more.nodes place twin g;
   ordered_paired = ordered_paired;
-  act_paired = λ op p place twin memory other h g. act_keeps p memory other h machine op place twin g;
+  act_paired = λ op p place twin memory other h g. (act_keeps p memory other h machine op place twin g).steps;
 }
