@@ -1,7 +1,7 @@
 -- What is in range is paired with itself, and what is paired throughout is in range, so that accesses, which keep
 -- pairings, keep the numbers in range.
 use Rattle.std.specs.Prelude.{◌≡◌, ℕ, zero, suc, ◌<◌, ◌≤◌, List, [], ◌∷◌, ◌++◌, length, Option}
-use Rattle.std.specs.Prelude.{Some, None, IfSome, All, refl}
+use Rattle.std.specs.Prelude.{Some, None, IfSome, All, refl, true, false, if◌then◌else◌, nat_lt}
 use Rattle.std.specs.List.{AllByRecursion, AllZip}
 use Rattle.std.proofs.Common.{arith, inl, inr, length-append}
 use Rattle.std.proofs.lemmas.Bool.{cases_lt}
@@ -9,12 +9,17 @@ use Rattle.std.proofs.lemmas.List.Elements.{All-nil, All-from_recursion, recursi
 use Rattle.sched_program.specs.declared.operation.Op.{Op}
 use Rattle.tree_machine.specs.declared.machine.Outcome.{Outcome}
 use Rattle.tree_machine.specs.declared.machine.Outcome.TheVariants.{Goes, Replies, Astray}
+use Rattle.tree_machine.specs.declared.search_order.End.{End}
+use Rattle.tree_machine.specs.declared.search_order.Shape.{Shape}
+use Rattle.tree_machine.specs.declared.search_order.Shape.TheVariants as shape
 use Rattle.tree_machine.specs.Cells.{IsPairedOrNone}
 use Rattle.tree_machine.specs.Pairing.{Pairing, Extends, IsAmong, IsOneToOne, AreHeldPaired, AreOutcomesPaired}
 use Rattle.tree_machine.specs.Pairing.{AreStepsPaired}
 use Rattle.tree_machine.specs.Parts.{Part, Parts, part_at, ArePartsPaired, IsPartsPairing, IsPartBelow}
 use Rattle.tree_machine.specs.Parts.{ArePartsInRange}
 use Rattle.tree_machine.specs.Rules.{Rules, ArePlacesInRange, IsOutcomeInRange}
+use Rattle.tree_machine.specs.SearchOrder.{went_down, end_of}
+use Rattle.tree_machine.specs.Laws.SearchOrderPairs.{AreShapesPaired}
 
 -- ---- each number paired with itself
 
@@ -168,6 +173,34 @@ paired_in_range P R fixed s t h nodes records =
           All-from_recursion (IsPartBelow n r) s.held (held_in P R n r below beneath s.held t.held h.held_paired);
     }
 
+-- ---- where searches end
+
+-- of memories whose paired nodes are seen alike, searches for a key end at paired nodes
+module _ (P : ℕ → ℕ → Type 0) (shapes others : ℕ → Option Shape)
+    (seen : (x y : ℕ) → P x y → AreShapesPaired P (shapes x) (others y)) (k : ℕ) where
+  abbrev AreEndsPaired : End → End → Type 0
+  AreEndsPaired a b = P a.parent b.parent × P a.leaf b.leaf
+
+  down_paired : (below other : ℕ → End) → ((x y : ℕ) → P x y → AreEndsPaired (below x) (other y))
+      → (here there : End) → AreEndsPaired here there → (a b : Option Shape) → AreShapesPaired P a b
+      → AreEndsPaired (went_down k below here a) (went_down k other there b)
+  down_paired below other f here there e None None h = e
+  down_paired below other f here there e (Some (shape.Leaf i)) (Some (shape.Leaf j)) h = e
+  down_paired below other f here there e (Some (shape.Internal i l r)) (Some (shape.Internal j m s)) h =
+      let next : P (if nat_lt k i then l else r) (if nat_lt k j then m else s) =
+      rw h.0
+      (elim (nat_lt k j) as (λ b. P (if b then l else r) (if b then m else s)) [ true ↦ h.1 | false ↦ h.2 ]) in
+      f (if nat_lt k i then l else r) (if nat_lt k j then m else s) next
+  down_paired below other f here there e _ _ h = absurd h
+
+  pub ends_paired : (levels parent above x y : ℕ) → P parent above → P x y
+      → AreEndsPaired (end_of shapes k levels parent x) (end_of others k levels above y)
+  ends_paired zero parent above x y p q = (p, q)
+  ends_paired (suc levels) parent above x y p q =
+      down_paired (end_of shapes k levels x) (end_of others k levels y) (λ a b r. ends_paired levels x y a b q r)
+      (record { parent = parent; leaf = x }) (record { parent = above; leaf = y }) (p, q) (shapes x) (others y)
+      (seen x y q)
+
 -- ---- accesses
 
 module _ {Place : Type 0} where
@@ -223,13 +256,13 @@ module _ {Memory Place : Type 0} where
       let self =
       self_paired memory held h (All-from_recursion (IsIn memory) held (at, (beside, tt))) in
       let s = act_whole op self.0 place place memory memory self.1 self.2 self.3.0 in
-      let then = s.0.then in
+      let q = s.0.then in
       let more =
-      held_extends (rules.pairs.places self.0) (rules.pairs.places then)
-      (λ a b. extend self.0 then a b s.0.extends) other self.3.1.0 in
+      held_extends (rules.pairs.places self.0) (rules.pairs.places q)
+      (λ a b. extend self.0 q a b s.0.extends) other self.3.1.0 in
       let now = place_of after.1 ∷ other ∷ [] in
       let kept =
-      whole_in_range then after.0 after.0 now now s.1 s.0.memories_paired
-      (outcome_paired (rules.pairs.places then) after.1 s.0.outcomes_paired, (more, tt)) in
+      whole_in_range q after.0 after.0 now now s.1 s.0.memories_paired
+      (outcome_paired (rules.pairs.places q) after.1 s.0.outcomes_paired, (more, tt)) in
       let places = recursion_from_All (IsIn after.0) now kept.1 in
       (kept.0, outcome_in rules after.0 after.1 places.0, places.1.0)
