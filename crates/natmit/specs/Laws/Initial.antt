@@ -1,6 +1,6 @@
 -- The initial memory has its numbers in range, and keeps search order.
 use Rattle.std.specs.Prelude.{◌≡◌, ◌≢◌, ℕ, zero, suc, ◌<◌, ◌≤◌, Bool, true, false, nat_lt, if◌then◌else◌, List, []}
-use Rattle.std.specs.Prelude.{◌∷◌, length, fold, refl, Option, Some, None, IfSome, unwrap_or, slice_get}
+use Rattle.std.specs.Prelude.{◌∷◌, length, fold, refl, Some, IfSome, slice_get}
 use Rattle.std.specs.Option.{option_map}
 use Rattle.std.proofs.Common.{arith, sym, ◌∙◌, ap, ◌⊎◌, inl, length-append}
 use Rattle.std.proofs.lemmas.List.{length-set}
@@ -9,47 +9,23 @@ use Rattle.std.proofs.lemmas.Option.{same_Some}
 use Rattle.sched_program.specs.Program.{IsUserKey, AreInitialKeys}
 use Rattle.tree_machine.specs.declared.search_order.Side.{Side}
 use Rattle.tree_machine.specs.declared.search_order.Side.TheVariants.{Left, Right}
-use Rattle.tree_machine.specs.declared.search_order.End.{End}
-use Rattle.tree_machine.specs.declared.search_order.Shape.{Shape}
 use Rattle.tree_machine.specs.declared.search_order.Shape.TheVariants as shape
 use Rattle.tree_machine.specs.Pairing.{IsAmong}
-use Rattle.tree_machine.specs.SearchOrder.{KeepsSearchOrder, went_down, end_of}
-use Rattle.tree_machine.specs.Laws.Decoded.{map_some}
-use Rattle.tree_machine.proofs.Lists.{at_all}
+use Rattle.tree_machine.specs.SearchOrder.{KeepsSearchOrder, end_of}
 use Rattle.tree_machine.proofs.Inserted.{key_of, over_child, put_over}
+use Rattle.tree_machine.specs.Laws.PairedRange.{ends_paired}
 use Rattle.tree_machine.specs.Laws.InitialKeys.{IsPutIn, stays_ordered}
 use Rattle.natmit.specs.declared.memory.Node.{Node}
 use Rattle.natmit.specs.declared.memory.Node.TheVariants.{Leaf, Internal}
 use Rattle.natmit.specs.declared.memory.NatMitMem.{NatMitMem}
-use Rattle.natmit.specs.Memory.{plain, key_in, shape_in, shapes, with_word, node_at, key_at, side_at, internal_over}
-use Rattle.natmit.specs.Memory.{with_internal, new_internal, set_word}
+use Rattle.natmit.specs.Memory.{plain, key_in, shape_in, shapes, with_word, key_at, side_at, internal_over}
+use Rattle.natmit.specs.Memory.{with_internal, new_internal}
 use Rattle.natmit.specs.Initial.{empty_tree, put_in, initial_memory}
 use Rattle.natmit.specs.Range.{IsNodeIn, IsInRange, IsPlaceInRange}
 use Rattle.natmit.specs.Laws.PairedAccesses.{set_word_paired}
 use Rattle.natmit.specs.Laws.PairedAppends.{with_two_new, internals_paired, two_new}
+use Rattle.natmit.specs.Laws.Pairs.{seen}
 use Rattle.natmit.specs.Laws.Range.{self_paired, whole_in_range}
-
--- ---- where a search ends
-
-module _ (shapes : ℕ → Option Shape) (n k : ℕ)
-    (closed : (x m l r : ℕ) → shapes x ≡ Some (shape.Internal m l r) → (l < n) × (r < n)) where
-  abbrev IsEndIn : End → Type 0
-  IsEndIn end = (end.parent < n) × (end.leaf < n)
-
-  end_at : (levels parent x : ℕ) (o : Option Shape) → shapes x ≡ o
-      → ((y : ℕ) → y < n → IsEndIn (end_of shapes k levels x y)) → parent < n → x < n
-      → IsEndIn (went_down k (end_of shapes k levels x) (record { parent = parent; leaf = x }) o)
-  end_at levels parent x None e f above below = (above, below)
-  end_at levels parent x (Some (shape.Leaf j)) e f above below = (above, below)
-  end_at levels parent x (Some (shape.Internal m l r)) e f above below =
-      let both = closed x m l r e in
-      f (if nat_lt k m then l else r)
-      (elim (nat_lt k m) as (λ b. (if b then l else r) < n) [ true ↦ both.0 | false ↦ both.1 ])
-
-  end_in : (levels parent x : ℕ) → parent < n → x < n → IsEndIn (end_of shapes k levels parent x)
-  end_in zero parent x above below = (above, below)
-  end_in (suc levels) parent x above below =
-      end_at levels parent x (shapes x) refl (λ y. end_in levels x y below) above below
 
 -- ---- search order
 
@@ -124,44 +100,24 @@ initial_ordered keys initial =
 
 -- ---- numbers in range
 
-closed : (memory : NatMitMem) → IsInRange memory → (x m l r : ℕ) → shapes memory x ≡ Some (shape.Internal m l r)
-    → (l < length memory.nodes) × (r < length memory.nodes)
-closed memory h x m l r e =
-    let t = map_some shape_in (slice_get memory.nodes x) (shape.Internal m l r) e in
-    let same : node_at memory x ≡ t.0 = ap (λ o. unwrap_or o (Leaf 0)) t.1 in
-    let node = at_all (IsNodeIn (length memory.nodes)) memory.nodes x (Leaf 0) h.nodes tt in
-    children t.0 m l r (rw same at node) (sym t.2)
-  where
-    children : (node : Node) (m l r : ℕ) → IsNodeIn (length memory.nodes) node → shape_in node ≡ shape.Internal m l r
-        → (l < length memory.nodes) × (r < length memory.nodes)
-    children (Leaf k) m l r b e = cc
-    children (Internal k left right) m l r b e =
-        let one : left.node ≡ l = cc in
-        let two : right.node ≡ r = cc in
-        let x = b.0 in
-        let y = b.1 in
-        (omega arith, omega arith)
-
 put_in_range : (memory : NatMitMem) (k : ℕ) → IsInRange memory → IsInRange (put_in memory k)
 put_in_range memory k h =
     let n = length memory.nodes in
     let end = end_of (shapes memory) k n 0 0 in
-    let some = h.first_nodes in
-    let ends = end_in (shapes memory) n k (closed memory h) n 0 0 (omega arith) (omega arith) in
     let self = self_paired memory [] h (All-nil (λ place. IfSome place (IsPlaceInRange memory))) in
-    let parent = self.1 end.parent ends.0 in
-    let leaf = self.1 end.leaf ends.1 in
     let p = self.0 in
+    let root = self.2.root_paired in
+    let ends =
+    ends_paired (IsAmong p.nodes) (shapes memory) (shapes memory) (seen p memory memory self.2) k n 0 0 0 0 root root in
     let q = with_two_new p memory memory k in
-    let more = two_new p memory memory self.2 k end.leaf leaf.0 leaf.1 in
+    let more = two_new p memory memory self.2 k end.leaf end.leaf ends.1 in
+    let grown = with_internal memory k end.leaf in
     let side = side_at k memory end.parent in
     let word = plain (new_internal memory) in
-    (whole_in_range q (put_in memory k) (set_word (with_internal memory k leaf.0) parent.0 side word) [] []
-    (rw length-set (more.whole self.1))
-    (set_word_paired (IsAmong q.nodes) (with_internal memory k end.leaf) (with_internal memory k leaf.0)
-    more.memories_paired end.parent parent.0 side side word word (more.extends.nodes _ _ parent.1) refl
-    (refl, refl, internals_paired p memory memory k))
-    tt).0
+    let put =
+    set_word_paired (IsAmong q.nodes) grown grown more.memories_paired end.parent end.parent side side word word
+    (more.extends.nodes _ _ ends.0) refl (refl, refl, internals_paired p memory memory k) in
+    (whole_in_range q (put_in memory k) (put_in memory k) [] [] (rw length-set (more.whole self.1)) put tt).0
 
 empty_in_range : IsInRange empty_tree
 empty_in_range =

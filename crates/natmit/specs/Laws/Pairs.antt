@@ -31,7 +31,8 @@ module _ (p : Pairing) (memory twin : NatMitMem) (h : AreMemoriesPaired (IsAmong
   shapes_paired (Internal k l r) (Internal j m s) g = (g.0, g.1.2, g.2.2)
   shapes_paired _ _ g = absurd g
 
-  seen : (x y : ℕ) → P x y → AreShapesPaired P (shapes memory x) (shapes twin y)
+  -- paired nodes are seen alike
+  pub seen : (x y : ℕ) → P x y → AreShapesPaired P (shapes memory x) (shapes twin y)
   seen x y at =
       paired_as (AreFoundPaired P) (λ a b. AreShapesPaired P (option_map shape_in a) (option_map shape_in b))
       memory.nodes
