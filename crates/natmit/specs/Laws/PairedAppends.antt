@@ -5,7 +5,7 @@ use Rattle.std.proofs.lemmas.List.{append_assoc}
 use Rattle.tree_machine.specs.Cells.{IsPairedOrNone}
 use Rattle.tree_machine.specs.Laws.Cells.{AllZip-weaker}
 use Rattle.tree_machine.specs.Laws.PairedRange.{fresh_covers}
-use Rattle.tree_machine.specs.Pairing.{Pairing, Extends, IsAmong}
+use Rattle.tree_machine.specs.Pairing.{Pairing, IsAmong}
 use Rattle.tree_machine.specs.Parts.{Part, ArePartsPaired}
 use Rattle.tree_machine.proofs.FreshPairs.{choices_paired, fresh_one, fresh_within, fresh_paired}
 use Rattle.natmit.specs.declared.memory.Node.{Node}

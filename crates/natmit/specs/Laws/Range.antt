@@ -1,6 +1,6 @@
 -- A memory with places in range is paired with itself, and what is paired node by node is in range; so every access
 -- keeps the numbers in range.
-use Rattle.std.specs.Prelude.{ℕ, ◌<◌, List, [], ◌∷◌, length, Option, Some, IfSome, All}
+use Rattle.std.specs.Prelude.{List, [], length, Option, IfSome, All}
 use Rattle.std.specs.List.{AllZip}
 use Rattle.std.proofs.Common.{arith}
 use Rattle.std.proofs.lemmas.List.{length-map}
