@@ -19,8 +19,7 @@ use Rattle.ellen.specs.declared.memory.UpdateWord.TheVariants.{Untouched}
 use Rattle.ellen.specs.declared.memory.Node.{Node}
 use Rattle.ellen.specs.declared.memory.Node.TheVariants.{Leaf, Internal}
 use Rattle.ellen.specs.declared.memory.EllenMem.{EllenMem}
-use Rattle.ellen.specs.Memory.{shape_in, shapes, key_in, key_at, with_child, internal_over}
-use Rattle.ellen.specs.Memory.{new_internal, with_internal}
+use Rattle.ellen.specs.Memory.{shape_in, shapes, key_in, key_at, with_child, internal_over, with_internal}
 use Rattle.ellen.specs.Initial.{empty_tree, put_in, initial_memory}
 use Rattle.ellen.specs.Range.{IsNodeIn, IsInRange, IsPlaceInRange}
 use Rattle.ellen.specs.Laws.PairedAccesses.{behind, with_pairs, with_children_paired, replace_node}

@@ -119,34 +119,34 @@ fresh_covers pairs xs a y covered x below =
     ]
 
 module _ (P R : ℕ → ℕ → Type 0) (n r : ℕ) (nodes : (x y : ℕ) → P x y → x < n) (records : (x y : ℕ) → R x y → x < r)
-    where
-  names_in : (Q : ℕ → ℕ → Type 0) (m : ℕ) → ((x y : ℕ) → Q x y → x < m) → (names twins : List (Option ℕ))
-      → AllZip (IsPairedOrNone Q) names twins → AllByRecursion (IsBelow m) names
-  names_in Q m f [] [] h = tt
-  names_in Q m f (None ∷ names) (None ∷ twins) h = (tt, names_in Q m f names twins h.1)
-  names_in Q m f (Some x ∷ names) (Some y ∷ twins) h = (f x y h.0, names_in Q m f names twins h.1)
-  names_in Q m f (None ∷ names) (Some y ∷ twins) h = absurd h.0
-  names_in Q m f (Some x ∷ names) (None ∷ twins) h = absurd h.0
-  names_in Q m f _ _ h = absurd h
+  where
+    names_in : (Q : ℕ → ℕ → Type 0) (m : ℕ) → ((x y : ℕ) → Q x y → x < m) → (names twins : List (Option ℕ))
+        → AllZip (IsPairedOrNone Q) names twins → AllByRecursion (IsBelow m) names
+    names_in Q m f [] [] h = tt
+    names_in Q m f (None ∷ names) (None ∷ twins) h = (tt, names_in Q m f names twins h.1)
+    names_in Q m f (Some x ∷ names) (Some y ∷ twins) h = (f x y h.0, names_in Q m f names twins h.1)
+    names_in Q m f (None ∷ names) (Some y ∷ twins) h = absurd h.0
+    names_in Q m f (Some x ∷ names) (None ∷ twins) h = absurd h.0
+    names_in Q m f _ _ h = absurd h
 
-  part_in : (a b : Part) → ArePartsPaired P R a b → IsPartBelow n r a
-  part_in a b h = record {
-    nodes = All-from_recursion (IsBelow n) a.nodes (names_in P n nodes a.nodes b.nodes h.nodes);
-    records = All-from_recursion (IsBelow r) a.records (names_in R r records a.records b.records h.records);
-  }
+    part_in : (a b : Part) → ArePartsPaired P R a b → IsPartBelow n r a
+    part_in a b h = record {
+      nodes = All-from_recursion (IsBelow n) a.nodes (names_in P n nodes a.nodes b.nodes h.nodes);
+      records = All-from_recursion (IsBelow r) a.records (names_in R r records a.records b.records h.records);
+    }
 
-  parts_in : (parts : List Part) → ((x : ℕ) → x < length parts → (b : Part) × ArePartsPaired P R (part_at parts x) b)
-      → AllByRecursion (IsPartBelow n r) parts
-  parts_in [] f = tt
-  parts_in (p ∷ parts) f =
-      let first = f 0 (omega arith) in
-      (part_in p first.0 first.1, parts_in parts (λ x below. f (suc x) (omega arith)))
+    parts_in : (parts : List Part) → ((x : ℕ) → x < length parts → (b : Part) × ArePartsPaired P R (part_at parts x) b)
+        → AllByRecursion (IsPartBelow n r) parts
+    parts_in [] f = tt
+    parts_in (p ∷ parts) f =
+        let first = f 0 (omega arith) in
+        (part_in p first.0 first.1, parts_in parts (λ x below. f (suc x) (omega arith)))
 
-  held_in : (held others : List Part) → AllZip (ArePartsPaired P R) held others
-      → AllByRecursion (IsPartBelow n r) held
-  held_in [] [] h = tt
-  held_in (p ∷ held) (q ∷ others) h = (part_in p q h.0, held_in held others h.1)
-  held_in _ _ h = absurd h
+    held_in : (held others : List Part) → AllZip (ArePartsPaired P R) held others
+        → AllByRecursion (IsPartBelow n r) held
+    held_in [] [] h = tt
+    held_in (p ∷ held) (q ∷ others) h = (part_in p q h.0, held_in held others h.1)
+    held_in _ _ h = absurd h
 
 below_all : (n m : ℕ) → ((x : ℕ) → x < n → x < m) → n ≤ m
 below_all zero m f = omega arith
