@@ -111,7 +111,8 @@ module _ (p : Pairing) (memory twin : NatMitMem) (h : AreMemoriesPaired (IsAmong
   act_keeps machine op (Put q l) (Put r k) g =
       let n = key_of op in
       exchange_keeps p memory twin h (with_two_new p memory twin n) (with_internal memory n l) (with_internal twin n k)
-      (two_new p memory twin h n l k g.1) q.parent r.parent _ _ l k (plain (new_internal memory)) (plain (new_internal twin)) _ _ _ _
+      (two_new p memory twin h n l k g.1) q.parent r.parent _ _ l k (plain (new_internal memory))
+      (plain (new_internal twin)) _ _ _ _
       g.0.2 (sides n q.parent r.parent g.0.2) g.1 (refl, refl, internals_paired p memory twin n) refl g
   act_keeps machine op (Flag q l) (Flag r k) g =
       exchange_keeps p memory twin h p memory twin (unchanged p memory twin h) q.parent r.parent _ _ l k _ _ _ _ _ _
