@@ -176,7 +176,8 @@ module _ (machine : Ellen) (op : Op) (p : Pairing) (m o : EllenMem) (h : ellen_p
       (help_first_paired p h.root machine)
   search_keeps (InsOnly x l) (InsOnly y n) g =
       exchange_child_keeps p m o h (fresh_nodes m o) [] _ _ (append_internal p m o (key_of op) l n h g.1)
-      (λ w. (internal_whole p m o (key_of op) l n h g.1 w.0, w.1)) x y l n (new_internal m) (new_internal o) _ _ _ _ g.0 g.1 (inl (refl, refl)) refl (tt, h.root)
+      (λ w. (internal_whole p m o (key_of op) l n h g.1 w.0, w.1))
+      x y l n (new_internal m) (new_internal o) _ _ _ _ g.0 g.1 (inl (refl, refl)) refl (tt, h.root)
   -- the exchange of a delete's flag: a record is new, which the grandparent's update word names
   search_keeps (DFlag a x u l) (DFlag b y v n) g =
       let left : Record = Del (record { grandparent = a.node; parent = x; leaf = l; parent_update = u }) in
@@ -194,7 +195,8 @@ module _ (machine : Ellen) (op : Op) (p : Pairing) (m o : EllenMem) (h : ellen_p
   search_keeps _ _ g = absurd g
 
   module _ (y z : Resume) (rest : AreResumesPaired Nodes Records y z) where
-    unflagged_keeps : (done : Bool) (r s : ℕ) → Records r s → Steps p m o h (unflagged done r y m) (unflagged done s z o)
+    unflagged_keeps : (done : Bool) (r s : ℕ) → Records r s
+        → Steps p m o h (unflagged done r y m) (unflagged done s z o)
     unflagged_keeps done r s g =
         delete_keeps p m o h _ _ _ _ (h.records r s g)
         (λ i j k. exchange_update_keeps p m o h [] [] m o h (λ w. w) i.grandparent j.grandparent _ _ _ _ _ _ _ _ k.0 g g
@@ -204,7 +206,8 @@ module _ (machine : Ellen) (op : Op) (p : Pairing) (m o : EllenMem) (h : ellen_p
         → Steps p m o h (help_act machine at y m) (help_act machine twin z o)
     help_keeps (InsChild r) (InsChild s) g =
         insert_keeps p m o h _ _ _ _ (h.records r s g)
-        (λ i j k. exchange_child_keeps p m o h [] [] m o h (λ w. w) i.parent j.parent i.leaf j.leaf i.new j.new _ _ _ _ k.0
+        (λ i j k. exchange_child_keeps p m o h [] [] m o h (λ w. w)
+        i.parent j.parent i.leaf j.leaf i.new j.new _ _ _ _ k.0
         k.1 k.2 (g, rest) (g, rest))
     help_keeps (InsClean r) (InsClean s) g =
         insert_keeps p m o h _ _ _ _ (h.records r s g)
@@ -212,7 +215,8 @@ module _ (machine : Ellen) (op : Op) (p : Pairing) (m o : EllenMem) (h : ellen_p
         (returned_paired p h.root true y z rest) (λ u v w. returned_paired p h.root true y z rest))
     help_keeps (Mark r) (Mark s) g =
         delete_keeps p m o h _ _ _ _ (h.records r s g)
-        (λ i j k. exchange_update_keeps p m o h [] [] m o h (λ w. w) i.parent j.parent _ _ _ _ _ _ _ _ k.1 k.3 g (g, rest)
+        (λ i j k. exchange_update_keeps p m o h [] [] m o h (λ w. w)
+        i.parent j.parent _ _ _ _ _ _ _ _ k.1 k.3 g (g, rest)
         (λ u v w. choices_paired (Outcomes p h.root) (is_word u (word.Mark r)) (is_word v (word.Mark s)) _ _ _ _
         (words_compared Records h.records_one_to_one u v (word.Mark r) (word.Mark s) w g) (g, rest)
         (help_paired p h.root machine u v _ _ w (stacks_paired p h.root r s y.stack z.stack g rest.0, rest.1))))
@@ -226,7 +230,8 @@ module _ (machine : Ellen) (op : Op) (p : Pairing) (m o : EllenMem) (h : ellen_p
         (λ i j k. read_child_keeps p m o h i.parent j.parent c d _ _ k.1 g.1 (λ a b w. ((g.0, w), rest)))
     help_keeps (Splice r x) (Splice s t) g =
         delete_keeps p m o h _ _ _ _ (h.records r s g.0)
-        (λ i j k. exchange_child_keeps p m o h [] [] m o h (λ w. w) i.grandparent j.grandparent i.parent j.parent x t _ _ _ _
+        (λ i j k. exchange_child_keeps p m o h [] [] m o h (λ w. w)
+        i.grandparent j.grandparent i.parent j.parent x t _ _ _ _
         k.0 k.1 g.1 (g.0, rest) (g.0, rest))
     help_keeps (DelClean r) (DelClean s) g = unflagged_keeps true r s g
     help_keeps (Back r) (Back s) g = unflagged_keeps false r s g
