@@ -11,5 +11,4 @@ pub mod PairedSteps
 pub mod Parts
 pub mod PartsRange
 pub mod Range
-pub mod RangeSteps
 pub mod Rules

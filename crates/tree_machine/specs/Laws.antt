@@ -21,6 +21,7 @@ pub mod Graphs
 pub mod InitialKeys
 pub mod MetLists
 pub mod Packed
+pub mod PairedRange
 pub mod PartCells
 pub mod PartForms
 pub mod PartsBy

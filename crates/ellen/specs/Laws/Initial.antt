@@ -1,38 +1,55 @@
 -- The initial memory has its numbers in range and keeps search order.
 use Rattle.std.specs.Prelude.{◌≡◌, ◌≢◌, ℕ, zero, suc, ◌+◌, ◌<◌, ◌≤◌, Bool, true, false, if◌then◌else◌, nat_lt, List, []}
-use Rattle.std.specs.Prelude.{◌∷◌, length, fold, refl, Some, slice_get}
+use Rattle.std.specs.Prelude.{◌∷◌, ◌++◌, length, fold, refl, Some, IfSome, slice_get}
 use Rattle.std.specs.Option.{option_map}
-use Rattle.std.proofs.Common.{arith, ap, ◌⊎◌, inl, inr, length-append}
+use Rattle.std.proofs.Common.{arith, ap, sym, ◌∙◌, ◌⊎◌, inl, inr, length-append}
 use Rattle.std.proofs.lemmas.List.{length-set}
-use Rattle.std.proofs.lemmas.List.Elements.{All-from_recursion, All-weaker}
+use Rattle.std.proofs.lemmas.List.Elements.{All-nil, All-from_recursion, All-weaker}
 use Rattle.std.proofs.lemmas.Option.{same_Some}
 use Rattle.sched_program.specs.Program.{IsUserKey, AreInitialKeys}
 use Rattle.tree_machine.specs.declared.search_order.Shape.TheVariants as shape
 use Rattle.tree_machine.specs.declared.search_order.Side.{Side}
 use Rattle.tree_machine.specs.declared.search_order.Side.TheVariants.{Left, Right}
+use Rattle.tree_machine.specs.Pairing.{IsAmong}
 use Rattle.tree_machine.specs.SearchOrder.{side_of, KeepsSearchOrder, end_of}
 use Rattle.tree_machine.proofs.Inserted.{key_of, over_child, put_over}
+use Rattle.tree_machine.specs.Laws.PairedRange.{ends_paired}
 use Rattle.tree_machine.specs.Laws.InitialKeys.{IsPutIn, stays_ordered}
 use Rattle.ellen.specs.declared.memory.UpdateWord.TheVariants.{Untouched}
 use Rattle.ellen.specs.declared.memory.Node.{Node}
 use Rattle.ellen.specs.declared.memory.Node.TheVariants.{Leaf, Internal}
 use Rattle.ellen.specs.declared.memory.EllenMem.{EllenMem}
-use Rattle.ellen.specs.Memory.{shape_in, shapes, key_in, key_at, with_child, internal_over}
-use Rattle.ellen.specs.Memory.{new_internal}
+use Rattle.ellen.specs.Memory.{shape_in, shapes, key_in, key_at, with_child, internal_over, with_internal}
 use Rattle.ellen.specs.Initial.{empty_tree, put_in, initial_memory}
-use Rattle.ellen.specs.Range.{IsNodeIn, IsInRange}
-use Rattle.ellen.specs.Laws.Range.{either, set_in, with_child_in, node_in, with_internal_in, three_more}
+use Rattle.ellen.specs.Range.{IsNodeIn, IsInRange, IsPlaceInRange}
+use Rattle.ellen.specs.Laws.PairedAccesses.{behind, with_pairs, with_children_paired, replace_node}
+use Rattle.ellen.specs.Laws.PairedAppends.{fresh_nodes, append_internal, internal_whole}
+use Rattle.ellen.specs.Laws.Pairs.{seen}
+use Rattle.ellen.specs.Laws.Range.{self_paired, whole_in_range}
 
 -- ---- numbers in range
 
 put_in_range : (memory : EllenMem) (k : ℕ) → IsInRange memory → IsInRange (put_in memory k)
 put_in_range memory k h =
-    let end = end_of (shapes memory) k (length memory.nodes) 0 0 in
-    let in_range = with_internal_in memory k end.leaf h in
-    let more = three_more memory k end.leaf in
-    set_in _ end.parent _ in_range
-    (with_child_in _ _ (side_of k (key_at memory end.parent)) (new_internal memory) _ (node_in _ end.parent in_range)
-    (omega arith))
+    let n = length memory.nodes in
+    let end = end_of (shapes memory) k n 0 0 in
+    let self = self_paired memory [] h (All-nil (λ place. IfSome place (IsPlaceInRange memory))) in
+    let p = self.0 in
+    let P = IsAmong p.nodes in
+    let R = IsAmong p.records in
+    let root = self.2.root in
+    let ends =
+    ends_paired P (shapes memory) (shapes memory) (seen P R memory memory self.2) k n 0 0 0 0 root root in
+    let fresh = fresh_nodes memory memory in
+    let Q = IsAmong (fresh ++ p.nodes) in
+    let more = append_internal p memory memory k end.leaf end.leaf self.2 ends.1 in
+    let grown = with_internal memory k end.leaf in
+    let side = side_of k (key_at memory end.parent) in
+    let parent = behind fresh p.nodes end.parent end.parent ends.0 in
+    let put = with_children_paired Q R side side _ _ _ _ refl (inl (refl, refl)) (more.nodes _ _ parent) in
+    (whole_in_range (with_pairs fresh [] p) (put_in memory k) (put_in memory k) [] []
+    (rw length-set (internal_whole p memory memory k end.leaf end.leaf self.2 ends.1 self.1.0), self.1.1)
+    (replace_node Q R grown grown end.parent end.parent _ _ more parent put) tt).0
 
 fold_in_range : (keys : List ℕ) (memory : EllenMem) → IsInRange memory → IsInRange (fold put_in memory keys)
 fold_in_range [] memory h = h
@@ -71,15 +88,15 @@ module _ (k j n : ℕ) where
   over_is true = refl
   over_is false = refl
 
-  no_leaf : (i : ℕ) → shape_in (internal_over k j n (n + 1)) ≡ shape.Leaf i → ⊥
-  no_leaf i =
-      either (λ node. shape_in node ≡ shape.Leaf i → ⊥) (nat_lt k j) (Internal j Untouched n (n + 1))
-      (Internal k Untouched (n + 1) n) (λ e. cc) (λ e. cc)
+  no_leaf : (b : Bool) (i : ℕ)
+      → (if b then shape.Internal j n (n + 1) else shape.Internal k (n + 1) n) ≡ shape.Leaf i → ⊥
+  no_leaf true i e = cc
+  no_leaf false i e = cc
 
   new_leaves : (i x : ℕ) → option_map shape_in (slice_get more x) ≡ Some (shape.Leaf i) → (i ≡ k) ⊎ (i ≡ j)
   new_leaves i zero e = inl cc
   new_leaves i (suc zero) e = inr cc
-  new_leaves i (suc (suc zero)) e = absurd (no_leaf i (same_Some _ _ e))
+  new_leaves i (suc (suc zero)) e = absurd (no_leaf (nat_lt k j) i (sym (over_is (nat_lt k j)) ∙ same_Some _ _ e))
   new_leaves i (suc (suc (suc x))) e = cc
 
 puts : (memory : EllenMem) (k : ℕ) → IsPutIn (shapes memory) (shapes (put_in memory k)) k

@@ -1,9 +1,11 @@
 -- Each kind of access keeps a pairing.
 use Rattle.std.specs.Prelude.{◌≡◌, ℕ, Bool, true, false, ◌&&◌, nat_eq, List, [], ◌∷◌, ◌++◌, Option, Some, None, refl}
 use Rattle.std.proofs.Common.{◌∙◌, ap, subst, sym, inr}
+use Rattle.std.proofs.lemmas.List.{length-set}
 use Rattle.tree_machine.specs.Cells.{IsPairedOrNone}
 use Rattle.tree_machine.specs.Pairing.{IsAmong, IsOneToOne, Pairing, Extends, AreOutcomesPaired, AreStepsPaired}
 use Rattle.tree_machine.proofs.FreshPairs.{choices_paired, same_number, within_set, paired_set}
+use Rattle.tree_machine.specs.Laws.PairedRange.{IsCovered}
 use Rattle.tree_machine.specs.SearchOrder.{side_of}
 use Rattle.tree_machine.specs.declared.machine.Outcome.{Outcome}
 use Rattle.tree_machine.specs.declared.machine.Outcome.TheVariants.{Astray}
@@ -99,14 +101,14 @@ module _ (P R : ℕ → ℕ → Type 0) where
   with_child_paired side.Right x y (Internal k u l r) (Internal j v m s) p h = (h.0, h.1, h.2, p)
   with_child_paired _ x y _ _ p h = absurd h
 
-  with_children_paired : (c d : Side) (x y : ℕ) (a b : Node) → c ≡ d → P x y → AreNodesPaired P R a b
+  pub with_children_paired : (c d : Side) (x y : ℕ) (a b : Node) → c ≡ d → P x y → AreNodesPaired P R a b
       → AreNodesPaired P R (with_child c x a) (with_child d y b)
   with_children_paired c d x y a b e p h =
       subst (λ s. AreNodesPaired P R (with_child c x a) (with_child s y b)) e (with_child_paired c x y a b p h)
 
 -- ---- a node is replaced on both sides
 
-replace_node : (P R : ℕ → ℕ → Type 0) (memory other : EllenMem) (x y : ℕ) (a b : Node)
+pub replace_node : (P R : ℕ → ℕ → Type 0) (memory other : EllenMem) (x y : ℕ) (a b : Node)
     → AreMemoriesPaired P R memory other → P x y → AreNodesPaired P R a b
     → AreMemoriesPaired P R (set_node memory x a) (set_node other y b)
 replace_node P R memory other x y a b h p g = record {
@@ -132,6 +134,10 @@ behind (p ∷ fresh) pairs x y h = inr (behind fresh pairs x y h)
 abbrev pub with_pairs : List (ℕ × ℕ) → List (ℕ × ℕ) → Pairing → Pairing
 with_pairs nodes records p = record { nodes = nodes ++ p.nodes; records = records ++ p.records }
 
+-- p pairs each node and each record of the memory
+abbrev pub IsWhole : Pairing → EllenMem → Type 0
+IsWhole p m = IsCovered (IsAmong p.nodes) m.nodes × IsCovered (IsAmong p.records) m.records
+
 -- ---- kinds of access
 
 module _ (p : Pairing) (m o : EllenMem) (h : ellen_pairs.memories p m o) where
@@ -144,14 +150,19 @@ module _ (p : Pairing) (m o : EllenMem) (h : ellen_pairs.memories p m o) where
   abbrev Outcomes : Outcome EllenLoc → Outcome EllenLoc → Type 0
   Outcomes a b = AreOutcomesPaired (ellen_pairs.places p) a b
 
-  abbrev Steps : After → After → Type 0
-  Steps left right = AreStepsPaired ellen_pairs p left right
+  -- accesses keep a pairing, and where it pairs each node and record, they leave one that does
+  pub record Steps (left right : After) : Type 0 where
+    pub paired : AreStepsPaired ellen_pairs p left right
+    pub whole : IsWhole p m → IsWhole paired.then left.0
 
   -- the memories stay as they are
   stay : (a b : Outcome EllenLoc) → Outcomes a b → Steps (m, a) (o, b)
   stay a b k =
       let extends : Extends p p = record { nodes = λ x y q. q; records = λ x y q. q } in
-      record { then = p; extends = extends; memories_paired = h; outcomes_paired = k }
+      record {
+        paired = record { then = p; extends = extends; memories_paired = h; outcomes_paired = k };
+        whole = λ w. w;
+      }
 
   found_keeps : {A : Type 0} (T : A → A → Type 0) (x y : Option A) (f g : A → After) → AreBoth T x y
       → ((a b : A) → T a b → Steps (f a) (g b)) → Steps (found m x f) (found o y g)
@@ -176,7 +187,8 @@ module _ (p : Pairing) (m o : EllenMem) (h : ellen_pairs.memories p m o) where
 
   -- an exchange, where a and b are the memories with what is new, which these pairs of nodes and of records pair
   module _ (nodes records : List (ℕ × ℕ)) (a b : EllenMem)
-      (after : ellen_pairs.memories (with_pairs nodes records p) a b) where
+      (after : ellen_pairs.memories (with_pairs nodes records p) a b)
+      (whole : IsWhole p m → IsWhole (with_pairs nodes records p) a) where
     abbrev Q : ℕ → ℕ → Type 0
     Q = IsAmong (nodes ++ p.nodes)
 
@@ -193,10 +205,13 @@ module _ (p : Pairing) (m o : EllenMem) (h : ellen_pairs.memories p m o) where
     written x y c d s t q new won =
         let at = behind nodes p.nodes x y q in
         record {
-          then = with_pairs nodes records p;
-          extends = record { nodes = behind nodes p.nodes; records = behind records p.records };
-          memories_paired = replace_node Q S a b x y c d after at (new (after.nodes x y at));
-          outcomes_paired = won;
+          paired = record {
+            then = with_pairs nodes records p;
+            extends = record { nodes = behind nodes p.nodes; records = behind records p.records };
+            memories_paired = replace_node Q S a b x y c d after at (new (after.nodes x y at));
+            outcomes_paired = won;
+          };
+          whole = λ w. let t = whole w in (rw length-set t.0, t.1);
         }
 
     -- an exchange of an update word

@@ -5,6 +5,7 @@ use Rattle.std.proofs.Common.{ap, inl, inr, arith, length-append}
 use Rattle.std.proofs.lemmas.List.{append_assoc}
 use Rattle.tree_machine.specs.Cells.{IsPairedOrNone}
 use Rattle.tree_machine.specs.Laws.Cells.{AllZip-weaker}
+use Rattle.tree_machine.specs.Laws.PairedRange.{IsCovered, fresh_covers}
 use Rattle.tree_machine.specs.Pairing.{IsAmong, Pairing}
 use Rattle.tree_machine.specs.Parts.{Part, ArePartsPaired}
 use Rattle.tree_machine.proofs.FreshPairs.{choices_paired, fresh_one, fresh_within, fresh_paired}
@@ -168,3 +169,15 @@ module _ (p : Pairing) (m o : EllenMem) (k l n : ℕ) (h : ellen_pairs.memories 
   pub append_internal : ellen_pairs.memories (with_pairs (fresh_nodes m o) [] p) (with_internal m k l)
       (with_internal o k n)
   append_internal = simp append_assoc at all_three
+
+  -- its pairs pair what is appended
+  pub internal_whole : IsCovered (IsAmong p.nodes) m.nodes
+      → IsCovered (IsAmong (fresh_nodes m o ++ p.nodes)) (with_internal m k l).nodes
+  internal_whole covered =
+      let one = fresh_covers p.nodes m.nodes (Leaf k) (length o.nodes) covered in
+      let two =
+      rw (one_more m k) at
+      (fresh_covers one_pair (with_leaf m k).nodes (Leaf (key_at m l)) (length o.nodes + 1) one) in
+      let over = internal_over k (key_at m l) (length m.nodes) (length m.nodes + 1) in
+      simp append_assoc at
+      (rw (two_more m k l) at (fresh_covers two_pairs (with_leaves m k l).nodes over (length o.nodes + 2) two))

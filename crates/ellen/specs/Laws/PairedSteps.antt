@@ -6,7 +6,8 @@ use Rattle.std.proofs.Common.{ap, subst, inl, inr}
 use Rattle.sched_program.specs.Program.{key_of}
 use Rattle.sched_program.specs.declared.operation.Op.{Op}
 use Rattle.sched_program.specs.declared.operation.Op.TheVariants.{Insert, Delete, Find}
-use Rattle.tree_machine.specs.Pairing.{IsAmong, Pairing, AreOutcomesPaired, AreStepsPaired}
+use Rattle.tree_machine.specs.Pairing.{IsAmong, Pairing, AreOutcomesPaired}
+use Rattle.tree_machine.specs.Laws.PairedRange.{fresh_covers}
 use Rattle.tree_machine.specs.SearchOrder.{side_of}
 use Rattle.tree_machine.specs.declared.machine.Outcome.{Outcome}
 use Rattle.tree_machine.specs.declared.search_order.Side.TheVariants as side
@@ -30,15 +31,16 @@ use Rattle.ellen.specs.declared.place.EllenLoc.{EllenLoc}
 use Rattle.ellen.specs.declared.place.EllenLoc.TheVariants.{Search, Help}
 use Rattle.ellen.specs.declared.machine.Ellen.{Ellen}
 use Rattle.ellen.specs.Memory.{is_word, is_clean, with_internal, new_internal}
-use Rattle.ellen.specs.Table.{After, with_base, settled, top_taken, unwound, returned, marking, help, help_first}
+use Rattle.ellen.specs.Table.{with_base, settled, top_taken, unwound, returned, marking, help, help_first}
 use Rattle.ellen.specs.Table.{flagging, decide, arrived, search_act, unflagged, help_act, act}
 use Rattle.ellen.specs.Pairs.{AreBoth, AreWordsPaired, AreNodesPaired, AreAbovesPaired, AreSearchesPaired}
 use Rattle.ellen.specs.Pairs.{AreHelpsPaired, AreResumesPaired, ellen_pairs}
 use Rattle.tree_machine.proofs.FreshPairs.{choices_paired, same_number}
 use Rattle.ellen.specs.Laws.PairedAccesses.{words_compared, key_paired, with_pairs, read_update_keeps}
 use Rattle.ellen.specs.Laws.PairedAccesses.{read_child_keeps, exchange_update_keeps, exchange_child_keeps}
-use Rattle.ellen.specs.Laws.PairedAccesses.{insert_keeps, delete_keeps}
+use Rattle.ellen.specs.Laws.PairedAccesses.{insert_keeps, delete_keeps, Steps}
 use Rattle.ellen.specs.Laws.PairedAppends.{records_weaker, append_record, append_internal, fresh_nodes}
+use Rattle.ellen.specs.Laws.PairedAppends.{internal_whole}
 
 -- ---- where operations go, from paired places
 
@@ -150,11 +152,8 @@ module _ (machine : Ellen) (op : Op) (p : Pairing) (m o : EllenMem) (h : ellen_p
   abbrev fresh_record : List (ℕ × ℕ)
   fresh_record = (length m.records, length o.records) ∷ []
 
-  abbrev Steps : After → After → Type 0
-  Steps left right = AreStepsPaired ellen_pairs p left right
-
   search_keeps : (at twin : SearchLoc) → AreSearchesPaired Nodes Records at twin
-      → Steps (search_act machine op at m) (search_act machine op twin o)
+      → Steps p m o h (search_act machine op at m) (search_act machine op twin o)
   search_keeps (Update a x) (Update b y) g = read_update_keeps p m o h x y _ _ g.1 (λ u v w. (g.0, g.1, w))
   search_keeps (Child a x u) (Child b y v) g =
       read_child_keeps p m o h x y _ _ _ _ g.1
@@ -168,10 +167,16 @@ module _ (machine : Ellen) (op : Op) (p : Pairing) (m o : EllenMem) (h : ellen_p
       (Ins (record { parent = x; leaf = l; new = new_internal m }))
       (Ins (record { parent = y; leaf = n; new = new_internal o }))
       (append_internal p m o (key_of op) l n h g.2) (inr (inr (inr g.0)), inr (inr (inr g.2)), inl (refl, refl)))
+      (λ w. (
+        internal_whole p m o (key_of op) l n h g.2 w.0,
+        fresh_covers p.records m.records (Ins (record { parent = x; leaf = l; new = new_internal m }))
+            (length o.records) w.1,
+      ))
       x y u v _ _ _ _ _ _ g.0 g.1 (inl (refl, refl)) (inl (refl, refl), (tt, refl))
       (help_first_paired p h.root machine)
   search_keeps (InsOnly x l) (InsOnly y n) g =
       exchange_child_keeps p m o h (fresh_nodes m o) [] _ _ (append_internal p m o (key_of op) l n h g.1)
+      (λ w. (internal_whole p m o (key_of op) l n h g.1 w.0, w.1))
       x y l n (new_internal m) (new_internal o) _ _ _ _ g.0 g.1 (inl (refl, refl)) refl (tt, h.root)
   -- the exchange of a delete's flag: a record is new, which the grandparent's update word names
   search_keeps (DFlag a x u l) (DFlag b y v n) g =
@@ -181,6 +186,7 @@ module _ (machine : Ellen) (op : Op) (p : Pairing) (m o : EllenMem) (h : ellen_p
       records_weaker Nodes Nodes Records (IsAmong (fresh_record ++ p.records)) (λ x y k. k) (λ x y k. inr k) left right
       (g.0.0, g.1, g.3, g.2) in
       exchange_update_keeps p m o h [] fresh_record _ _ (append_record p.nodes p.records m o left right h more)
+      (λ w. (w.0, fresh_covers p.records m.records left (length o.records) w.1))
       a.node b.node a.update b.update _ _ _ _ _ _ g.0.0 g.0.1 (inl (refl, refl)) (
         marking_paired (with_pairs [] fresh_record p) h.root machine _ _ (inl (refl, refl)),
         (tt, refl),
@@ -189,25 +195,28 @@ module _ (machine : Ellen) (op : Op) (p : Pairing) (m o : EllenMem) (h : ellen_p
   search_keeps _ _ g = absurd g
 
   module _ (y z : Resume) (rest : AreResumesPaired Nodes Records y z) where
-    unflagged_keeps : (done : Bool) (r s : ℕ) → Records r s → Steps (unflagged done r y m) (unflagged done s z o)
+    unflagged_keeps : (done : Bool) (r s : ℕ) → Records r s
+        → Steps p m o h (unflagged done r y m) (unflagged done s z o)
     unflagged_keeps done r s g =
         delete_keeps p m o h _ _ _ _ (h.records r s g)
-        (λ i j k. exchange_update_keeps p m o h [] [] m o h i.grandparent j.grandparent _ _ _ _ _ _ _ _ k.0 g g
+        (λ i j k. exchange_update_keeps p m o h [] [] m o h (λ w. w) i.grandparent j.grandparent _ _ _ _ _ _ _ _ k.0 g g
         (returned_paired p h.root done y z rest) (λ u v w. returned_paired p h.root done y z rest))
 
     help_keeps : (at twin : HelpLoc) → AreHelpsPaired Nodes Records at twin
-        → Steps (help_act machine at y m) (help_act machine twin z o)
+        → Steps p m o h (help_act machine at y m) (help_act machine twin z o)
     help_keeps (InsChild r) (InsChild s) g =
         insert_keeps p m o h _ _ _ _ (h.records r s g)
-        (λ i j k. exchange_child_keeps p m o h [] [] m o h i.parent j.parent i.leaf j.leaf i.new j.new _ _ _ _ k.0
+        (λ i j k. exchange_child_keeps p m o h [] [] m o h (λ w. w)
+        i.parent j.parent i.leaf j.leaf i.new j.new _ _ _ _ k.0
         k.1 k.2 (g, rest) (g, rest))
     help_keeps (InsClean r) (InsClean s) g =
         insert_keeps p m o h _ _ _ _ (h.records r s g)
-        (λ i j k. exchange_update_keeps p m o h [] [] m o h i.parent j.parent _ _ _ _ _ _ _ _ k.0 g g
+        (λ i j k. exchange_update_keeps p m o h [] [] m o h (λ w. w) i.parent j.parent _ _ _ _ _ _ _ _ k.0 g g
         (returned_paired p h.root true y z rest) (λ u v w. returned_paired p h.root true y z rest))
     help_keeps (Mark r) (Mark s) g =
         delete_keeps p m o h _ _ _ _ (h.records r s g)
-        (λ i j k. exchange_update_keeps p m o h [] [] m o h i.parent j.parent _ _ _ _ _ _ _ _ k.1 k.3 g (g, rest)
+        (λ i j k. exchange_update_keeps p m o h [] [] m o h (λ w. w)
+        i.parent j.parent _ _ _ _ _ _ _ _ k.1 k.3 g (g, rest)
         (λ u v w. choices_paired (Outcomes p h.root) (is_word u (word.Mark r)) (is_word v (word.Mark s)) _ _ _ _
         (words_compared Records h.records_one_to_one u v (word.Mark r) (word.Mark s) w g) (g, rest)
         (help_paired p h.root machine u v _ _ w (stacks_paired p h.root r s y.stack z.stack g rest.0, rest.1))))
@@ -221,7 +230,8 @@ module _ (machine : Ellen) (op : Op) (p : Pairing) (m o : EllenMem) (h : ellen_p
         (λ i j k. read_child_keeps p m o h i.parent j.parent c d _ _ k.1 g.1 (λ a b w. ((g.0, w), rest)))
     help_keeps (Splice r x) (Splice s t) g =
         delete_keeps p m o h _ _ _ _ (h.records r s g.0)
-        (λ i j k. exchange_child_keeps p m o h [] [] m o h i.grandparent j.grandparent i.parent j.parent x t _ _ _ _
+        (λ i j k. exchange_child_keeps p m o h [] [] m o h (λ w. w)
+        i.grandparent j.grandparent i.parent j.parent x t _ _ _ _
         k.0 k.1 g.1 (g.0, rest) (g.0, rest))
     help_keeps (DelClean r) (DelClean s) g = unflagged_keeps true r s g
     help_keeps (Back r) (Back s) g = unflagged_keeps false r s g
@@ -229,7 +239,7 @@ module _ (machine : Ellen) (op : Op) (p : Pairing) (m o : EllenMem) (h : ellen_p
 
   -- accesses of paired places keep a pairing
   pub act_keeps : (place twin : EllenLoc) → ellen_pairs.places p place twin
-      → Steps (act machine op place m) (act machine op twin o)
+      → Steps p m o h (act machine op place m) (act machine op twin o)
   act_keeps (Search at) (Search twin) g = search_keeps at twin g
   act_keeps (Help at y) (Help twin z) g = help_keeps y z g.1 at twin g.0
   act_keeps _ _ g = absurd g

@@ -26,7 +26,8 @@ module _ (P R : ℕ → ℕ → Type 0) where
   shapes_paired _ _ h = absurd h
 
   module _ (memory other : EllenMem) (h : AreMemoriesPaired P R memory other) where
-    seen : (x y : ℕ) → P x y → AreShapesPaired P (shapes memory x) (shapes other y)
+    -- paired nodes are seen alike
+    pub seen : (x y : ℕ) → P x y → AreShapesPaired P (shapes memory x) (shapes other y)
     seen x y p =
         paired_as (AreFoundPaired P R) (λ a b. AreShapesPaired P (option_map shape_in a) (option_map shape_in b))
         memory.nodes other.nodes x y (h.nodes_in_range x y p) shapes_paired (h.nodes x y p)
@@ -44,5 +45,5 @@ ellen_pairs_lawful machine = record {
       λ p q place twin more h. places_weaker (IsAmong p.nodes) (IsAmong q.nodes) (IsAmong p.records)
       (IsAmong q.records) more.nodes more.records place twin h;
   ordered_paired = λ p memory twin h. ordered_paired (IsAmong p.nodes) (IsAmong p.records) memory twin h;
-  act_paired = λ op p place twin memory other h g. act_keeps machine op p memory other h place twin g;
+  act_paired = λ op p place twin memory other h g. (act_keeps machine op p memory other h place twin g).paired;
 }

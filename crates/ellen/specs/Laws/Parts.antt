@@ -197,7 +197,8 @@ module _ (P R : ℕ → ℕ → Type 0) where
 -- ---- memories
 
 module _ (P R : ℕ → ℕ → Type 0) (memory other : EllenMem) (held others : List (Option EllenLoc)) where
-  pairing_to : AreMemoriesPaired P R memory other → AllZip (AreHeldPaired (ArePlacesPaired P R)) held others
+  -- what pairs the memories and the places pairs their parts
+  pub pairing_to : AreMemoriesPaired P R memory other → AllZip (AreHeldPaired (ArePlacesPaired P R)) held others
       → IsPartsPairing P R 1 (ellen_parts memory held) (ellen_parts other others)
   pairing_to h k = record {
     nodes_one_to_one = h.nodes_one_to_one;
@@ -216,38 +217,38 @@ module _ (P R : ℕ → ℕ → Type 0) (memory other : EllenMem) (held others :
         held others k;
   }
 
-  memories_from : IsPartsPairing P R 1 (ellen_parts memory held) (ellen_parts other others)
-      → AreMemoriesPaired P R memory other
-  memories_from h =
+  -- and what pairs the parts pairs these
+  pub pairing_from : IsPartsPairing P R 1 (ellen_parts memory held) (ellen_parts other others)
+      → AreMemoriesPaired P R memory other × AllZip (AreHeldPaired (ArePlacesPaired P R)) held others
+  pairing_from h =
       let nodes_below : (x y : ℕ) → P x y → (x < length memory.nodes) × (y < length other.nodes) =
       λ x y p. values_within node_part memory.nodes other.nodes x y (h.nodes_in_range x y p) in
       let records_below : (x y : ℕ) → R x y → (x < length memory.records) × (y < length other.records) =
-      λ x y p. values_within record_part memory.records other.records x y (h.records_in_range x y p) in
-      record {
-        nodes_one_to_one = h.nodes_one_to_one;
-        records_one_to_one = h.records_one_to_one;
-        root = h.fixed_paired 0 (omega arith);
-        nodes_in_range = nodes_below;
-        records_in_range = records_below;
-        nodes =
-            λ x y p. values_at node_part memory.nodes other.nodes x y P R (AreFoundPaired P R) (nodes_below x y p)
-            (λ a b. (node_parts P R a b).1) (h.nodes_paired x y p);
-        records =
-            λ x y p. values_at record_part memory.records other.records x y P R (AreBoth (AreRecordsPaired P R))
-            (records_below x y p) (λ a b. (record_parts P R a b).1) (h.records_paired x y p);
-      }
+      λ x y p. values_within record_part memory.records other.records x y (h.records_in_range x y p) in (
+        record {
+          nodes_one_to_one = h.nodes_one_to_one;
+          records_one_to_one = h.records_one_to_one;
+          root = h.fixed_paired 0 (omega arith);
+          nodes_in_range = nodes_below;
+          records_in_range = records_below;
+          nodes =
+              λ x y p. values_at node_part memory.nodes other.nodes x y P R (AreFoundPaired P R) (nodes_below x y p)
+              (λ a b. (node_parts P R a b).1) (h.nodes_paired x y p);
+          records =
+              λ x y p. values_at record_part memory.records other.records x y P R (AreBoth (AreRecordsPaired P R))
+              (records_below x y p) (λ a b. (record_parts P R a b).1) (h.records_paired x y p);
+        },
+        zip_unmap held_part (AreHeldPaired (ArePlacesPaired P R)) (ArePartsPaired P R) (λ a b. (held_parts P R a b).1)
+            held others h.held_paired,
+      )
 
 -- some pairing pairs the parts exactly if one pairs the memories and what the threads hold
 pub parts_alike : (memory other : EllenMem) (held others : List (Option EllenLoc))
     → CanPartsBePaired 1 (ellen_parts memory held) (ellen_parts other others)
     ↔ AreAlike ellen_pairs memory held other others
 parts_alike memory other held others = (
-  (λ h. let P = IsAmong h.0 in let R = IsAmong h.1 in (
-    record { nodes = h.0; records = h.1 },
-    memories_from P R memory other held others h.2,
-    zip_unmap held_part (AreHeldPaired (ArePlacesPaired P R)) (ArePartsPaired P R) (λ a b. (held_parts P R a b).1)
-        held others h.2.held_paired,
-  )),
+  (λ h. let t = pairing_from (IsAmong h.0) (IsAmong h.1) memory other held others h.2 in
+      (record { nodes = h.0; records = h.1 }, t.0, t.1)),
   (λ h. (
     h.0.nodes,
     h.0.records,

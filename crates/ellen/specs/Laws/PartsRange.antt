@@ -1,10 +1,9 @@
--- The numbers of a memory and of places are in range exactly if those of their parts are, and stay so where there are
--- more nodes and records.
-use Rattle.std.specs.Prelude.{ℕ, ◌<◌, ◌≤◌, ◌↔◌, List, map, length, Option, Some, None, IfSome, All}
+-- The numbers of a memory and of places are in range exactly if those of their parts are.
+use Rattle.std.specs.Prelude.{ℕ, ◌<◌, ◌↔◌, List, map, length, Option, Some, None, IfSome, All}
 use Rattle.std.specs.List.{AllByRecursion}
 use Rattle.std.proofs.Common.{arith}
 use Rattle.std.proofs.lemmas.List.{length-map}
-use Rattle.std.proofs.lemmas.List.Elements.{All-map, All-weaker, All-from_recursion, recursion_from_All}
+use Rattle.std.proofs.lemmas.List.Elements.{All-map, All-from_recursion, recursion_from_All}
 use Rattle.tree_machine.specs.Parts.{Part, IsPartBelow, ArePartsInRange}
 use Rattle.tree_machine.proofs.ValueParts.{from_map, all_below, all_in}
 use Rattle.ellen.specs.declared.memory.Node.{Node}
@@ -118,29 +117,3 @@ values_in_range memory held h =
       all_in held_part (λ place. IfSome place (IsPlaceIn n m)) n m _ _ same alike (λ a. (held_exactly n m a).1) held
           h.held,
     )
-
--- ---- what is in range stays so where there are more nodes and records
-
-below_more : (n more : ℕ) → n ≤ more → (x : Option ℕ) → Below n x → Below more x
-below_more n more le None h = tt
-below_more n more le (Some x) h = omega arith
-
-module _ (n m nodes records : ℕ) (len : n ≤ nodes) (lem : m ≤ records) where
-  part_more : (p : Part) → IsPartBelow n m p → IsPartBelow nodes records p
-  part_more p h =
-      record {
-        nodes = All-weaker (Below n) (Below nodes) (below_more n nodes len) p.nodes h.nodes;
-        records = All-weaker (Below m) (Below records) (below_more m records lem) p.records h.records;
-      }
-
-  -- a node stays in range
-  pub node_more : (node : Node) → IsNodeIn n m node → IsNodeIn nodes records node
-  node_more node h = (node_exactly nodes records node).1 (part_more _ ((node_exactly n m node).0 h))
-
-  -- a record stays in range
-  pub record_more : (each : Record) → IsRecordIn n m each → IsRecordIn nodes records each
-  record_more each h = (record_exactly nodes records each).1 (part_more _ ((record_exactly n m each).0 h))
-
-  -- a place stays in range
-  pub place_more : (place : EllenLoc) → IsPlaceIn n m place → IsPlaceIn nodes records place
-  place_more place h = (place_exactly nodes records place).1 (part_more _ ((place_exactly n m place).0 h))

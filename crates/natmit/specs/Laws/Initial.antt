@@ -1,46 +1,31 @@
 -- The initial memory has its numbers in range, and keeps search order.
 use Rattle.std.specs.Prelude.{◌≡◌, ◌≢◌, ℕ, zero, suc, ◌<◌, ◌≤◌, Bool, true, false, nat_lt, if◌then◌else◌, List, []}
-use Rattle.std.specs.Prelude.{◌∷◌, length, fold, refl, Option, Some, None, unwrap_or, slice_get}
+use Rattle.std.specs.Prelude.{◌∷◌, length, fold, refl, Some, IfSome, slice_get}
 use Rattle.std.specs.Option.{option_map}
-use Rattle.std.proofs.Common.{arith, sym, ap, subst, ◌⊎◌, inl, length-append}
+use Rattle.std.proofs.Common.{arith, sym, ◌∙◌, ap, ◌⊎◌, inl, length-append}
 use Rattle.std.proofs.lemmas.List.{length-set}
-use Rattle.std.proofs.lemmas.List.Elements.{All-from_recursion, All-weaker}
+use Rattle.std.proofs.lemmas.List.Elements.{All-nil, All-from_recursion, All-weaker}
 use Rattle.std.proofs.lemmas.Option.{same_Some}
 use Rattle.sched_program.specs.Program.{IsUserKey, AreInitialKeys}
 use Rattle.tree_machine.specs.declared.search_order.Side.{Side}
 use Rattle.tree_machine.specs.declared.search_order.Side.TheVariants.{Left, Right}
-use Rattle.tree_machine.specs.declared.search_order.Shape.{Shape}
 use Rattle.tree_machine.specs.declared.search_order.Shape.TheVariants as shape
-use Rattle.tree_machine.specs.SearchOrder.{KeepsSearchOrder, went_down, end_of}
-use Rattle.tree_machine.specs.Laws.Decoded.{map_some}
+use Rattle.tree_machine.specs.Pairing.{IsAmong}
+use Rattle.tree_machine.specs.SearchOrder.{KeepsSearchOrder, end_of}
 use Rattle.tree_machine.proofs.Inserted.{key_of, over_child, put_over}
+use Rattle.tree_machine.specs.Laws.PairedRange.{ends_paired}
 use Rattle.tree_machine.specs.Laws.InitialKeys.{IsPutIn, stays_ordered}
 use Rattle.natmit.specs.declared.memory.Node.{Node}
 use Rattle.natmit.specs.declared.memory.Node.TheVariants.{Leaf, Internal}
 use Rattle.natmit.specs.declared.memory.NatMitMem.{NatMitMem}
-use Rattle.natmit.specs.Memory.{plain, key_in, shape_in, shapes, with_word, node_at, key_at, side_at, internal_over}
+use Rattle.natmit.specs.Memory.{plain, key_in, shape_in, shapes, with_word, key_at, side_at, internal_over}
 use Rattle.natmit.specs.Memory.{with_internal, new_internal}
 use Rattle.natmit.specs.Initial.{empty_tree, put_in, initial_memory}
-use Rattle.natmit.specs.Range.{IsNodeIn, IsInRange}
-use Rattle.natmit.specs.Laws.Range.{either, node_in, set_word_in, two_more, with_internal_in}
-
--- ---- where a search ends
-
-module _ (shapes : ℕ → Option Shape) (n k : ℕ)
-    (closed : (x m l r : ℕ) → shapes x ≡ Some (shape.Internal m l r) → (l < n) × (r < n)) where
-  leaf_at : (levels parent x : ℕ) (o : Option Shape) → shapes x ≡ o
-      → ((parent x : ℕ) → x < n → (end_of shapes k levels parent x).leaf < n)
-      → x < n → (went_down k (end_of shapes k levels x) (record { parent = parent; leaf = x }) o).leaf < n
-  leaf_at levels parent x None e f below = below
-  leaf_at levels parent x (Some (shape.Leaf j)) e f below = below
-  leaf_at levels parent x (Some (shape.Internal m l r)) e f below =
-      let both = closed x m l r e in
-      f x (if nat_lt k m then l else r)
-      (elim (nat_lt k m) as (λ b. (if b then l else r) < n) [ true ↦ both.0 | false ↦ both.1 ])
-
-  leaf_below : (levels parent x : ℕ) → x < n → (end_of shapes k levels parent x).leaf < n
-  leaf_below zero parent x below = below
-  leaf_below (suc levels) parent x below = leaf_at levels parent x (shapes x) refl (leaf_below levels) below
+use Rattle.natmit.specs.Range.{IsNodeIn, IsInRange, IsPlaceInRange}
+use Rattle.natmit.specs.Laws.PairedAccesses.{set_word_paired}
+use Rattle.natmit.specs.Laws.PairedAppends.{with_two_new, internals_paired, two_new}
+use Rattle.natmit.specs.Laws.Pairs.{seen}
+use Rattle.natmit.specs.Laws.Range.{self_paired, whole_in_range}
 
 -- ---- search order
 
@@ -61,15 +46,14 @@ module _ (k j n l : ℕ) where
   over_is true = refl
   over_is false = refl
 
-  no_leaf : (i : ℕ) → shape_in (internal_over k j n l) ≡ shape.Leaf i → ⊥
-  no_leaf i =
-      either (λ node. shape_in node ≡ shape.Leaf i → ⊥) (nat_lt k j) (Internal j (plain n) (plain l))
-      (Internal k (plain l) (plain n)) (λ e. cc) (λ e. cc)
+  no_leaf : (b : Bool) (i : ℕ) → (if b then shape.Internal j n l else shape.Internal k l n) ≡ shape.Leaf i → ⊥
+  no_leaf true i e = cc
+  no_leaf false i e = cc
 
   new_leaves : (i x : ℕ) → option_map shape_in (slice_get (Leaf k ∷ internal_over k j n l ∷ []) x) ≡ Some (shape.Leaf i)
       → (i ≡ k) ⊎ (i ≡ j)
   new_leaves i zero e = inl cc
-  new_leaves i (suc zero) e = absurd (no_leaf i (same_Some _ _ e))
+  new_leaves i (suc zero) e = absurd (no_leaf (nat_lt k j) i (sym (over_is (nat_lt k j)) ∙ same_Some _ _ e))
   new_leaves i (suc (suc x)) e = cc
 
 puts : (memory : NatMitMem) (k : ℕ) → IsPutIn (shapes memory) (shapes (put_in memory k)) k
@@ -116,32 +100,24 @@ initial_ordered keys initial =
 
 -- ---- numbers in range
 
-closed : (memory : NatMitMem) → IsInRange memory → (x m l r : ℕ) → shapes memory x ≡ Some (shape.Internal m l r)
-    → (l < length memory.nodes) × (r < length memory.nodes)
-closed memory h x m l r e =
-    let t = map_some shape_in (slice_get memory.nodes x) (shape.Internal m l r) e in
-    let same : node_at memory x ≡ t.0 = ap (λ o. unwrap_or o (Leaf 0)) t.1 in
-    children t.0 m l r (subst (IsNodeIn (length memory.nodes)) same (node_in memory x h)) (sym t.2)
-  where
-    children : (node : Node) (m l r : ℕ) → IsNodeIn (length memory.nodes) node → shape_in node ≡ shape.Internal m l r
-        → (l < length memory.nodes) × (r < length memory.nodes)
-    children (Leaf k) m l r b e = cc
-    children (Internal k left right) m l r b e =
-        let one : left.node ≡ l = cc in
-        let two : right.node ≡ r = cc in
-        let x = b.0 in
-        let y = b.1 in
-        (omega arith, omega arith)
-
 put_in_range : (memory : NatMitMem) (k : ℕ) → IsInRange memory → IsInRange (put_in memory k)
 put_in_range memory k h =
     let n = length memory.nodes in
     let end = end_of (shapes memory) k n 0 0 in
-    let some = h.first_nodes in
-    let more = two_more memory k end.leaf in
-    let leaf = leaf_below (shapes memory) n k (closed memory h) n 0 0 (omega arith) in
-    set_word_in (with_internal memory k end.leaf) end.parent (side_at k memory end.parent) (plain (new_internal memory))
-    (with_internal_in memory k end.leaf h leaf) (omega arith)
+    let self = self_paired memory [] h (All-nil (λ place. IfSome place (IsPlaceInRange memory))) in
+    let p = self.0 in
+    let root = self.2.root_paired in
+    let ends =
+    ends_paired (IsAmong p.nodes) (shapes memory) (shapes memory) (seen p memory memory self.2) k n 0 0 0 0 root root in
+    let q = with_two_new p memory memory k in
+    let more = two_new p memory memory self.2 k end.leaf end.leaf ends.1 in
+    let grown = with_internal memory k end.leaf in
+    let side = side_at k memory end.parent in
+    let word = plain (new_internal memory) in
+    let put =
+    set_word_paired (IsAmong q.nodes) grown grown more.memories_paired end.parent end.parent side side word word
+    (more.extends.nodes _ _ ends.0) refl (refl, refl, internals_paired p memory memory k) in
+    (whole_in_range q (put_in memory k) (put_in memory k) [] [] (rw length-set (more.whole self.1)) put tt).0
 
 empty_in_range : IsInRange empty_tree
 empty_in_range =

@@ -1,12 +1,14 @@
 -- What is read of paired memories is paired, and each kind of access keeps a pairing.
 use Rattle.std.specs.Prelude.{◌≡◌, ℕ, not, ◌&&◌, nat_eq, refl, Option, Some, None, unwrap_or}
 use Rattle.std.proofs.Common.{ap, subst}
+use Rattle.std.proofs.lemmas.List.{length-set}
 use Rattle.tree_machine.specs.declared.search_order.Side.{Side}
 use Rattle.tree_machine.specs.declared.search_order.Side.TheVariants.{Left, Right}
 use Rattle.tree_machine.specs.SearchOrder.{side_of}
 use Rattle.tree_machine.specs.Pairing.{Pairing, Extends, IsAmong, IsOneToOne, AreHeldPaired, AreOutcomesPaired}
 use Rattle.tree_machine.specs.Pairing.{AreStepsPaired}
 use Rattle.tree_machine.proofs.FreshPairs.{choices_paired, same_number, within_set, paired_set}
+use Rattle.tree_machine.specs.Laws.PairedRange.{IsCovered}
 use Rattle.natmit.specs.declared.memory.Word.{Word}
 use Rattle.natmit.specs.declared.memory.Node.{Node}
 use Rattle.natmit.specs.declared.memory.Node.TheVariants.{Leaf, Internal}
@@ -84,6 +86,10 @@ module _ (P : ℕ → ℕ → Type 0) (memory twin : NatMitMem) (h : AreMemories
 
 -- ---- kinds of access
 
+-- p pairs each node of the memory
+abbrev pub IsWhole : Pairing → NatMitMem → Type 0
+IsWhole p memory = IsCovered (IsAmong p.nodes) memory.nodes
+
 abbrev pub AreGoingAlike : (ℕ → ℕ → Type 0) → Outcome NatMitLoc → Outcome NatMitLoc → Type 0
 AreGoingAlike P o q = AreOutcomesPaired (ArePlacesPaired P) o q
 
@@ -91,15 +97,30 @@ module _ (p : Pairing) (memory twin : NatMitMem) (h : AreMemoriesPaired (IsAmong
   abbrev pub P : ℕ → ℕ → Type 0
   P = IsAmong p.nodes
 
-  -- accesses keep a pairing
-  abbrev pub AreAccessesPaired : After → After → Type 0
-  AreAccessesPaired left right = AreStepsPaired natmit_pairs p left right
+  -- accesses keep a pairing, and where it pairs each node, they leave one that does
+  pub record AreAccessesPaired (left right : After) : Type 0 where
+    pub steps : AreStepsPaired natmit_pairs p left right
+    pub whole : IsWhole p memory → IsWhole steps.then left.0
 
-  pub kept : Extends p p
-  kept = record { nodes = λ x y r. r; records = λ x y r. r }
+  -- what is appended on both sides, if anything, and more pairs, which pair it
+  pub record AreGrown (q : Pairing) (grown grown_twin : NatMitMem) : Type 0 where
+    pub extends : Extends p q
+    pub memories_paired : AreMemoriesPaired (IsAmong q.nodes) grown grown_twin
+    pub whole : IsWhole p memory → IsWhole q grown
+
+  -- nothing is appended
+  pub unchanged : AreGrown p memory twin
+  unchanged = record {
+    extends = record { nodes = λ x y r. r; records = λ x y r. r };
+    memories_paired = h;
+    whole = λ w. w;
+  }
 
   stays : (o q : Outcome NatMitLoc) → AreGoingAlike P o q → AreAccessesPaired (memory, o) (twin, q)
-  stays o q g = record { then = p; extends = kept; memories_paired = h; outcomes_paired = g }
+  stays o q g = record {
+    steps = record { then = p; extends = unchanged.extends; memories_paired = h; outcomes_paired = g };
+    whole = λ w. w;
+  }
 
   found_paired : (v w : Option Word) (f g : Word → After) → AreReadsPaired P v w
       → ((v w : Word) → AreWordsPaired P v w → AreAccessesPaired (f v) (g w))
@@ -116,36 +137,38 @@ module _ (p : Pairing) (memory twin : NatMitMem) (h : AreMemoriesPaired (IsAmong
       found_paired (word_on d (node_at memory x)) (word_on e (node_at twin y)) _ _
       (reads_paired P memory twin h x y d e at same) (λ v w r. stays (f v) (g w) (both v w r))
 
-  -- what is written may name new nodes, which further pairs then pair
-  written : (q : Pairing) → Extends p q → (grown grown_twin : NatMitMem)
-      → AreMemoriesPaired (IsAmong q.nodes) grown grown_twin
-      → (x y : ℕ) (d e : Side) (v w : Word) (o r : Outcome NatMitLoc)
-      → P x y → d ≡ e → AreWordsPaired (IsAmong q.nodes) v w → AreGoingAlike (IsAmong q.nodes) o r
-      → AreAccessesPaired (set_word grown x d v, o) (set_word grown_twin y e w, r)
-  written q more grown grown_twin k x y d e v w o r at same words goes = record {
-    then = q;
-    extends = more;
-    memories_paired = set_word_paired (IsAmong q.nodes) grown grown_twin k x y d e v w (more.nodes x y at) same words;
-    outcomes_paired = goes;
-  }
+  -- what is written may name new nodes, which the further pairs pair
+  module _ (q : Pairing) (grown grown_twin : NatMitMem) (more : AreGrown q grown grown_twin) where
+    written : (x y : ℕ) (d e : Side) (v w : Word) (o r : Outcome NatMitLoc)
+        → P x y → d ≡ e → AreWordsPaired (IsAmong q.nodes) v w → AreGoingAlike (IsAmong q.nodes) o r
+        → AreAccessesPaired (set_word grown x d v, o) (set_word grown_twin y e w, r)
+    written x y d e v w o r at same words goes = record {
+      steps = record {
+        then = q;
+        extends = more.extends;
+        memories_paired =
+            set_word_paired (IsAmong q.nodes) grown grown_twin more.memories_paired x y d e v w
+            (more.extends.nodes x y at) same words;
+        outcomes_paired = goes;
+      };
+      whole = λ w. rw length-set (more.whole w);
+    }
 
-  -- an exchange
-  pub exchange_keeps : (q : Pairing) → Extends p q → (grown grown_twin : NatMitMem)
-      → AreMemoriesPaired (IsAmong q.nodes) grown grown_twin
-      → (x y : ℕ) (d e : Side) (l k : ℕ) (desired desired_twin : Word)
-      (success failure success_twin failure_twin : Outcome NatMitLoc)
-      → P x y → d ≡ e → P l k → AreWordsPaired (IsAmong q.nodes) desired desired_twin
-      → AreGoingAlike (IsAmong q.nodes) success success_twin → AreGoingAlike P failure failure_twin
-      → AreAccessesPaired (after_exchange memory x d l grown desired success failure)
-      (after_exchange twin y e k grown_twin desired_twin success_twin failure_twin)
-  exchange_keeps q more grown grown_twin grow x y d e l k desired desired_twin success failure success_twin failure_twin
-      at same expected words won lost =
-      found_paired (word_on d (node_at memory x)) (word_on e (node_at twin y)) _ _
-      (reads_paired P memory twin h x y d e at same)
-      (λ v w r. choices_paired AreAccessesPaired (is_plain l v) (is_plain k w) _ _ _ _
-      (plain_paired P h.one_to_one l k v w expected r)
-      (written q more grown grown_twin grow x y d e desired desired_twin success success_twin at same words won)
-      (stays failure failure_twin lost))
+    -- an exchange
+    pub exchange_keeps : (x y : ℕ) (d e : Side) (l k : ℕ) (desired desired_twin : Word)
+        (success failure success_twin failure_twin : Outcome NatMitLoc)
+        → P x y → d ≡ e → P l k → AreWordsPaired (IsAmong q.nodes) desired desired_twin
+        → AreGoingAlike (IsAmong q.nodes) success success_twin → AreGoingAlike P failure failure_twin
+        → AreAccessesPaired (after_exchange memory x d l grown desired success failure)
+        (after_exchange twin y e k grown_twin desired_twin success_twin failure_twin)
+    exchange_keeps x y d e l k desired desired_twin success failure success_twin failure_twin at same expected words won
+        lost =
+        found_paired (word_on d (node_at memory x)) (word_on e (node_at twin y)) _ _
+        (reads_paired P memory twin h x y d e at same)
+        (λ v w r. choices_paired AreAccessesPaired (is_plain l v) (is_plain k w) _ _ _ _
+        (plain_paired P h.one_to_one l k v w expected r)
+        (written x y d e desired desired_twin success success_twin at same words won)
+        (stays failure failure_twin lost))
 
   -- the setting of a tag
   pub tag_keeps : (x y : ℕ) (d e : Side) (goes goes_twin : Outcome NatMitLoc) → P x y → d ≡ e
@@ -153,4 +176,4 @@ module _ (p : Pairing) (memory twin : NatMitMem) (h : AreMemoriesPaired (IsAmong
   tag_keeps x y d e goes goes_twin at same going =
       found_paired (word_on d (node_at memory x)) (word_on e (node_at twin y)) _ _
       (reads_paired P memory twin h x y d e at same)
-      (λ v w r. written p kept memory twin h x y d e _ _ goes goes_twin at same (r.0, refl, r.2) going)
+      (λ v w r. written p memory twin unchanged x y d e _ _ goes goes_twin at same (r.0, refl, r.2) going)

@@ -4,17 +4,18 @@ use Rattle.std.proofs.Common.{ap, inl, inr, length-append}
 use Rattle.std.proofs.lemmas.List.{append_assoc}
 use Rattle.tree_machine.specs.Cells.{IsPairedOrNone}
 use Rattle.tree_machine.specs.Laws.Cells.{AllZip-weaker}
-use Rattle.tree_machine.specs.Pairing.{Pairing, Extends, IsAmong}
+use Rattle.tree_machine.specs.Laws.PairedRange.{fresh_covers}
+use Rattle.tree_machine.specs.Pairing.{Pairing, IsAmong}
 use Rattle.tree_machine.specs.Parts.{Part, ArePartsPaired}
 use Rattle.tree_machine.proofs.FreshPairs.{choices_paired, fresh_one, fresh_within, fresh_paired}
 use Rattle.natmit.specs.declared.memory.Node.{Node}
 use Rattle.natmit.specs.declared.memory.Node.TheVariants.{Leaf, Internal}
 use Rattle.natmit.specs.declared.memory.NatMitMem.{NatMitMem}
-use Rattle.natmit.specs.Memory.{plain, node_at, internal_over, with_internal, new_internal}
+use Rattle.natmit.specs.Memory.{plain, node_at, key_at, internal_over, with_internal, new_internal}
 use Rattle.natmit.specs.Pairs.{AreNodesPaired, AreMemoriesPaired, ArePlacesPaired}
 use Rattle.natmit.specs.Laws.Parts.{node_parts, place_parts}
 use Rattle.natmit.specs.declared.place.NatMitLoc.{NatMitLoc}
-use Rattle.natmit.specs.Laws.PairedAccesses.{AreFoundPaired, key_paired}
+use Rattle.natmit.specs.Laws.PairedAccesses.{AreFoundPaired, AreGrown, key_paired}
 
 -- ---- more pairs pair what fewer do
 
@@ -76,21 +77,29 @@ over_paired P k x y i j l m p e q =
 abbrev pub with_two_new : Pairing → NatMitMem → NatMitMem → ℕ → Pairing
 with_two_new p memory twin k = with_new (with_new p memory twin) (with_node memory (Leaf k)) (with_node twin (Leaf k))
 
-pub two_new_extend : (p : Pairing) (memory twin : NatMitMem) (k : ℕ) → Extends p (with_two_new p memory twin k)
-two_new_extend p memory twin k = record { nodes = λ x y h. inr (inr h); records = λ x y h. h }
-
 pub internals_paired : (p : Pairing) (memory twin : NatMitMem) (k : ℕ)
     → IsIn (with_two_new p memory twin k) (new_internal memory) (new_internal twin)
 internals_paired p memory twin k =
     inl (length-append memory.nodes (Leaf k ∷ []), length-append twin.nodes (Leaf k ∷ []))
 
-pub with_internal_paired : (p : Pairing) (memory twin : NatMitMem) (k l m : ℕ) → AreMemoriesPaired (IsIn p) memory twin
+-- they pair what is appended
+pub two_new : (p : Pairing) (memory twin : NatMitMem) (h : AreMemoriesPaired (IsIn p) memory twin) (k l m : ℕ)
     → IsIn p l m
-    → AreMemoriesPaired (IsIn (with_two_new p memory twin k)) (with_internal memory k l) (with_internal twin k m)
-with_internal_paired p memory twin k l m h at =
+    → AreGrown p memory twin h (with_two_new p memory twin k) (with_internal memory k l) (with_internal twin k m)
+two_new p memory twin h k l m at =
     let leaves = with_node_paired p memory twin (Leaf k) (Leaf k) h refl in
     let over =
     over_paired (IsIn (with_two_new p memory twin k)) k (length memory.nodes) (length twin.nodes) _ _ l m
     (inr (inl (refl, refl))) (key_paired (IsIn p) _ _ (h.nodes_paired l m at)) (inr (inr at)) in
-    simp append_assoc at
-    (with_node_paired (with_new p memory twin) (with_node memory (Leaf k)) (with_node twin (Leaf k)) _ _ leaves over)
+    record {
+      extends = record { nodes = λ x y h. inr (inr h); records = λ x y h. h };
+      memories_paired =
+          simp append_assoc at
+          (with_node_paired (with_new p memory twin) (with_node memory (Leaf k)) (with_node twin (Leaf k)) _ _ leaves
+          over);
+      whole =
+          λ w. simp append_assoc at
+          (fresh_covers (with_new p memory twin).nodes (with_node memory (Leaf k)).nodes
+          (internal_over k (key_at memory l) (length memory.nodes) l) (length (with_node twin (Leaf k)).nodes)
+          (fresh_covers p.nodes memory.nodes (Leaf k) (length twin.nodes) w));
+    }

@@ -24,9 +24,9 @@ use Rattle.natmit.specs.declared.place.NatMitLoc.TheVariants.{Swing}
 use Rattle.natmit.specs.declared.machine.NatMit.{NatMit}
 use Rattle.natmit.specs.Table.{other_side, path_of, path_below, arrived, went_down, looked, tagging, clean_read, swung}
 use Rattle.natmit.specs.Table.{act}
-use Rattle.natmit.specs.Laws.PairedAccesses.{AreGoingAlike, AreAccessesPaired, kept, side_paired, read_keeps}
+use Rattle.natmit.specs.Laws.PairedAccesses.{AreGoingAlike, AreAccessesPaired, unchanged, side_paired, read_keeps}
 use Rattle.natmit.specs.Laws.PairedAccesses.{exchange_keeps, tag_keeps}
-use Rattle.natmit.specs.Laws.PairedAppends.{with_two_new, two_new_extend, internals_paired, with_internal_paired}
+use Rattle.natmit.specs.Laws.PairedAppends.{with_two_new, internals_paired, two_new}
 
 -- ---- where the operations go
 
@@ -110,12 +110,12 @@ module _ (p : Pairing) (memory twin : NatMitMem) (h : AreMemoriesPaired (IsAmong
       (down_keeps op (path_below q l t) (path_below r k c) m o (below_paired P q r l k t c g.0 g.1 g.2) g.3)
   act_keeps machine op (Put q l) (Put r k) g =
       let n = key_of op in
-      exchange_keeps p memory twin h (with_two_new p memory twin n) (two_new_extend p memory twin n)
-      (with_internal memory n l) (with_internal twin n k) (with_internal_paired p memory twin n l k h g.1)
-      q.parent r.parent _ _ l k (plain (new_internal memory)) (plain (new_internal twin)) _ _ _ _
+      exchange_keeps p memory twin h (with_two_new p memory twin n) (with_internal memory n l) (with_internal twin n k)
+      (two_new p memory twin h n l k g.1) q.parent r.parent _ _ l k (plain (new_internal memory))
+      (plain (new_internal twin)) _ _ _ _
       g.0.2 (sides n q.parent r.parent g.0.2) g.1 (refl, refl, internals_paired p memory twin n) refl g
   act_keeps machine op (Flag q l) (Flag r k) g =
-      exchange_keeps p memory twin h p (kept p memory twin h) memory twin h q.parent r.parent _ _ l k _ _ _ _ _ _
+      exchange_keeps p memory twin h p memory twin (unchanged p memory twin h) q.parent r.parent _ _ l k _ _ _ _ _ _
       g.0.2 (sides (key_of op) q.parent r.parent g.0.2) g.1 (refl, refl, g.1) g g
   act_keeps machine op (Look q l) (Look r k) g =
       read_keeps p memory twin h q.parent r.parent _ _ _ _ g.0.2 (sides (key_of op) q.parent r.parent g.0.2)
@@ -129,6 +129,6 @@ module _ (p : Pairing) (memory twin : NatMitMem) (h : AreMemoriesPaired (IsAmong
       read_keeps p memory twin h q.parent r.parent d e _ _ g.0.2 g.1
       (λ v w words. (g.0.0, g.0.1, words.0, words.2, g.2))
   act_keeps machine op (Swing a s f x m) (Swing b u c y o) g =
-      exchange_keeps p memory twin h p (kept p memory twin h) memory twin h a b _ _ s u _ _ _ _ _ _
+      exchange_keeps p memory twin h p memory twin (unchanged p memory twin h) a b _ _ s u _ _ _ _ _ _
       g.0 (sides (key_of op) a b g.0) g.1 (g.2, refl, g.3) (swung_paired P m o g.4) g.4
   act_keeps machine op _ _ g = absurd g

@@ -31,7 +31,8 @@ module _ (p : Pairing) (memory twin : NatMitMem) (h : AreMemoriesPaired (IsAmong
   shapes_paired (Internal k l r) (Internal j m s) g = (g.0, g.1.2, g.2.2)
   shapes_paired _ _ g = absurd g
 
-  seen : (x y : ℕ) → P x y → AreShapesPaired P (shapes memory x) (shapes twin y)
+  -- paired nodes are seen alike
+  pub seen : (x y : ℕ) → P x y → AreShapesPaired P (shapes memory x) (shapes twin y)
   seen x y at =
       paired_as (AreFoundPaired P) (λ a b. AreShapesPaired P (option_map shape_in a) (option_map shape_in b))
       memory.nodes
@@ -48,5 +49,5 @@ natmit_pairs_lawful machine = record {
   first_paired = λ op p memory twin h. tt;
   places_extend = λ p q place twin more g. places_extend (IsAmong p.nodes) (IsAmong q.nodes) more.nodes place twin g;
   ordered_paired = ordered_paired;
-  act_paired = λ op p place twin memory other h g. act_keeps p memory other h machine op place twin g;
+  act_paired = λ op p place twin memory other h g. (act_keeps p memory other h machine op place twin g).steps;
 }

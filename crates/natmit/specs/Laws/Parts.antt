@@ -94,51 +94,45 @@ module _ (P R : ℕ → ℕ → Type 0) where
   mode_parts (Owner x) (Owner y) = (λ h. h, λ h. h)
   mode_parts _ _ = (λ h. absurd h, λ h. absurd h)
 
-  -- parts that name no records
-  paired : {f g : List ℕ} {nodes twins : List (Option ℕ)} → f ≡ g → AllZip (IsPairedOrNone P) nodes twins
-      → ArePartsPaired P R (part_of f nodes) (part_of g twins)
-  paired e h = record { facts = e; nodes = h; records = tt }
+  -- parts that name no records are paired exactly if their facts are equal and their nodes paired
+  exactly : {T : Type 0} {f g : List ℕ} {nodes twins : List (Option ℕ)}
+      → (T → (f ≡ g) × AllZip (IsPairedOrNone P) nodes twins) → (f ≡ g → AllZip (IsPairedOrNone P) nodes twins → T)
+      → T ↔ ArePartsPaired P R (part_of f nodes) (part_of g twins)
+  exactly to back = (
+    (λ h. let t = to h in record { facts = t.0; nodes = t.1; records = tt }),
+    (λ h. back h.facts h.nodes),
+  )
 
   -- a path, and a leaf behind it
   leaf_parts : (f : List ℕ) (p q : Path) (l k : ℕ) → ArePathsPaired P p q × P l k
       ↔ ArePartsPaired P R (path_part f p (Some l ∷ [])) (path_part f q (Some k ∷ []))
-  leaf_parts f p q l k = (
-    (λ h. paired refl (h.0.0, (h.0.1, (h.0.2, (h.1, tt))))),
-    (λ h. let n = h.nodes in ((n.0, n.1.0, n.1.1.0), n.1.1.1.0)),
-  )
+  leaf_parts f p q l k =
+      exactly (λ h. (refl, (h.0.0, (h.0.1, (h.0.2, (h.1, tt))))))
+      (λ e n. ((n.0, n.1.0, n.1.1.0), n.1.1.1.0))
 
   -- places are paired exactly if their parts are
   pub place_parts : (place twin : NatMitLoc)
       → ArePlacesPaired P place twin ↔ ArePartsPaired P R (place_part place) (place_part twin)
   place_parts (Begin m) (Begin o) = let mode = mode_parts m o in
-      (λ h. paired refl (mode.0 h, tt), λ h. mode.1 h.nodes.0)
-  place_parts (Down p l t m) (Down q k v o) = let mode = mode_parts m o in (
-    (λ h. paired (ap (λ c. 2 ∷ bit c ∷ []) h.2) (h.0.0, (h.0.1, (h.0.2, (h.1, (mode.0 h.3, tt)))))),
-    (λ h. let f = h.facts in let n = h.nodes in
-        ((n.0, n.1.0, n.1.1.0), n.1.1.1.0, bit_tells t v (cc), mode.1 n.1.1.1.1.0)),
-  )
+      exactly (λ h. (refl, (mode.0 h, tt))) (λ e n. mode.1 n.0)
+  place_parts (Down p l t m) (Down q k v o) = let mode = mode_parts m o in
+      exactly (λ h. (ap (λ c. 2 ∷ bit c ∷ []) h.2, (h.0.0, (h.0.1, (h.0.2, (h.1, (mode.0 h.3, tt)))))))
+      (λ e n. ((n.0, n.1.0, n.1.1.0), n.1.1.1.0, bit_tells t v (cc), mode.1 n.1.1.1.1.0))
   place_parts (Put p l) (Put q k) = leaf_parts _ p q l k
   place_parts (Flag p l) (Flag q k) = leaf_parts _ p q l k
   place_parts (Look p l) (Look q k) = leaf_parts _ p q l k
-  place_parts (CleanRead p m) (CleanRead q o) = let mode = mode_parts m o in (
-    (λ h. paired refl (h.0.0, (h.0.1, (h.0.2, (mode.0 h.1, tt))))),
-    (λ h. let n = h.nodes in ((n.0, n.1.0, n.1.1.0), mode.1 n.1.1.1.0)),
-  )
-  place_parts (Tag p d m) (Tag q e o) = let mode = mode_parts m o in (
-    (λ h. paired (ap (λ c. 7 ∷ side_number c ∷ []) h.1) (h.0.0, (h.0.1, (h.0.2, (mode.0 h.2, tt))))),
-    (λ h. let f = h.facts in let n = h.nodes in
-        ((n.0, n.1.0, n.1.1.0), side_tells d e (cc), mode.1 n.1.1.1.0)),
-  )
-  place_parts (Sibling p d m) (Sibling q e o) = let mode = mode_parts m o in (
-    (λ h. paired (ap (λ c. 8 ∷ side_number c ∷ []) h.1) (h.0.0, (h.0.1, (h.0.2, (mode.0 h.2, tt))))),
-    (λ h. let f = h.facts in let n = h.nodes in
-        ((n.0, n.1.0, n.1.1.0), side_tells d e (cc), mode.1 n.1.1.1.0)),
-  )
-  place_parts (Swing a s f x m) (Swing b u g y o) = let mode = mode_parts m o in (
-    (λ h. paired (ap (λ c. 9 ∷ bit c ∷ []) h.2) (h.0, (h.1, (h.3, (mode.0 h.4, tt))))),
-    (λ h. let e = h.facts in let n = h.nodes in
-        (n.0, n.1.0, bit_tells f g (cc), n.1.1.0, mode.1 n.1.1.1.0)),
-  )
+  place_parts (CleanRead p m) (CleanRead q o) = let mode = mode_parts m o in
+      exactly (λ h. (refl, (h.0.0, (h.0.1, (h.0.2, (mode.0 h.1, tt))))))
+      (λ e n. ((n.0, n.1.0, n.1.1.0), mode.1 n.1.1.1.0))
+  place_parts (Tag p d m) (Tag q c o) = let mode = mode_parts m o in
+      exactly (λ h. (ap (λ s. 7 ∷ side_number s ∷ []) h.1, (h.0.0, (h.0.1, (h.0.2, (mode.0 h.2, tt))))))
+      (λ e n. ((n.0, n.1.0, n.1.1.0), side_tells d c (cc), mode.1 n.1.1.1.0))
+  place_parts (Sibling p d m) (Sibling q c o) = let mode = mode_parts m o in
+      exactly (λ h. (ap (λ s. 8 ∷ side_number s ∷ []) h.1, (h.0.0, (h.0.1, (h.0.2, (mode.0 h.2, tt))))))
+      (λ e n. ((n.0, n.1.0, n.1.1.0), side_tells d c (cc), mode.1 n.1.1.1.0))
+  place_parts (Swing a s f x m) (Swing b u g y o) = let mode = mode_parts m o in
+      exactly (λ h. (ap (λ c. 9 ∷ bit c ∷ []) h.2, (h.0, (h.1, (h.3, (mode.0 h.4, tt))))))
+      (λ e n. (n.0, n.1.0, bit_tells f g (cc), n.1.1.0, mode.1 n.1.1.1.0))
   place_parts _ _ = (λ h. absurd h, λ h. let f = h.facts in cc)
 
   -- no place has the part of a thread that holds none
@@ -168,37 +162,31 @@ module _ (memory other : NatMitMem) (held others : List (Option NatMitLoc)) wher
   first_paired P root begin (suc zero) below = begin
   first_paired P root begin (suc (suc x)) below = absurd (omega arith)
 
-  parts_alike : AreAlike natmit_pairs memory held other others → CanPartsBePaired 2 here there
-  parts_alike alike =
-      let P = IsAmong alike.0.nodes in
-      let R = IsAmong [] in
-      let h : AreMemoriesPaired P memory other = alike.1 in (
-        alike.0.nodes,
-        [],
-        record {
-          nodes_one_to_one = h.one_to_one;
-          records_one_to_one = λ x y a b none. absurd none;
-          fixed_paired = first_paired P h.root_paired h.begin_paired;
-          nodes_in_range = λ x y at. parts_within node_part memory.nodes other.nodes x y (h.in_range x y at);
-          records_in_range = λ x y none. absurd none;
-          nodes_paired =
-              λ x y at. parts_at node_part memory.nodes other.nodes x y P R (AreFoundPaired P) (h.in_range x y at)
-              (λ a b. (node_parts P R a b).0) (h.nodes_paired x y at);
-          records_paired = λ x y none. absurd none;
-          held_paired =
-              zip_map held_part (AreHeldPaired (ArePlacesPaired P)) (ArePartsPaired P R)
-              (λ a b. (held_parts P R a b).0) held others alike.2;
-        },
-      )
+  -- what pairs the memories and the places pairs their parts
+  pub pairing_to : (P : ℕ → ℕ → Type 0) → AreMemoriesPaired P memory other
+      → AllZip (AreHeldPaired (ArePlacesPaired P)) held others → IsPartsPairing P (IsAmong []) 2 here there
+  pairing_to P h places = let R = IsAmong [] in
+      record {
+        nodes_one_to_one = h.one_to_one;
+        records_one_to_one = λ x y a b none. absurd none;
+        fixed_paired = first_paired P h.root_paired h.begin_paired;
+        nodes_in_range = λ x y at. parts_within node_part memory.nodes other.nodes x y (h.in_range x y at);
+        records_in_range = λ x y none. absurd none;
+        nodes_paired =
+            λ x y at. parts_at node_part memory.nodes other.nodes x y P R (AreFoundPaired P) (h.in_range x y at)
+            (λ a b. (node_parts P R a b).0) (h.nodes_paired x y at);
+        records_paired = λ x y none. absurd none;
+        held_paired =
+            zip_map held_part (AreHeldPaired (ArePlacesPaired P)) (ArePartsPaired P R) (λ a b. (held_parts P R a b).0)
+            held others places;
+      }
 
-  alike_parts : CanPartsBePaired 2 here there → AreAlike natmit_pairs memory held other others
-  alike_parts paired =
-      let P = IsAmong paired.0 in
-      let R = IsAmong paired.1 in
-      let h : IsPartsPairing P R 2 here there = paired.2 in
+  -- and what pairs the parts pairs these
+  pub pairing_from : (P R : ℕ → ℕ → Type 0) → IsPartsPairing P R 2 here there
+      → AreMemoriesPaired P memory other × AllZip (AreHeldPaired (ArePlacesPaired P)) held others
+  pairing_from P R h =
       let in_range : (x y : ℕ) → P x y → (x < length memory.nodes) × (y < length other.nodes) =
       λ x y at. values_within node_part memory.nodes other.nodes x y (h.nodes_in_range x y at) in (
-        record { nodes = paired.0; records = paired.1 },
         record {
           one_to_one = h.nodes_one_to_one;
           root_paired = h.fixed_paired 0 (omega arith);
@@ -214,4 +202,7 @@ module _ (memory other : NatMitMem) (held others : List (Option NatMitLoc)) wher
 
   -- the parts can be paired exactly if memories and places are alike
   pub parts_exactly : CanPartsBePaired 2 here there ↔ AreAlike natmit_pairs memory held other others
-  parts_exactly = (alike_parts, parts_alike)
+  parts_exactly = (
+    (λ h. let t = pairing_from (IsAmong h.0) (IsAmong h.1) h.2 in (record { nodes = h.0; records = h.1 }, t.0, t.1)),
+    (λ h. (h.0.nodes, [], pairing_to (IsAmong h.0.nodes) h.1 h.2)),
+  )

@@ -1,11 +1,10 @@
--- The numbers of a memory and of places are in range exactly if those of their parts are, and stay so where there are
--- more nodes.
-use Rattle.std.specs.Prelude.{ℕ, ◌<◌, ◌≤◌, ◌↔◌, List, [], ◌∷◌, map, length, Option, Some, None, IfSome, All, refl}
+-- The numbers of a memory and of places are in range exactly if those of their parts are.
+use Rattle.std.specs.Prelude.{ℕ, ◌<◌, ◌↔◌, List, [], ◌∷◌, map, length, Option, Some, None, IfSome, All, refl}
 use Rattle.std.specs.List.{AllByRecursion}
 use Rattle.std.proofs.Common.{arith}
 use Rattle.std.proofs.lemmas.List.{length-map}
-use Rattle.std.proofs.lemmas.List.Elements.{All-nil, All-weaker, All-from_recursion, recursion_from_All}
-use Rattle.tree_machine.specs.Parts.{Part, IsPartBelow, ArePartsInRange}
+use Rattle.std.proofs.lemmas.List.Elements.{All-nil, All-from_recursion, recursion_from_All}
+use Rattle.tree_machine.specs.Parts.{IsPartBelow, ArePartsInRange}
 use Rattle.tree_machine.proofs.ValueParts.{all_below, all_in}
 use Rattle.natmit.specs.declared.memory.Node.{Node}
 use Rattle.natmit.specs.declared.memory.Node.TheVariants.{Leaf, Internal}
@@ -103,21 +102,3 @@ values_in_range memory held h =
       all_in held_part (λ place. IfSome place (IsPlaceIn n)) n 0 _ _ same refl (λ a. (held_exactly n 0 a).1) held
           h.held,
     )
-
--- ---- what is in range stays so where there are more nodes
-
-below_more : (n more : ℕ) → n ≤ more → (x : Option ℕ) → IfSome x (λ y. y < n) → IfSome x (λ y. y < more)
-below_more n more le None h = tt
-below_more n more le (Some x) h = omega arith
-
-module _ (n more : ℕ) (le : n ≤ more) where
-  part_more : (p : Part) → IsPartBelow n 0 p → IsPartBelow more 0 p
-  part_more p h = record { nodes = All-weaker _ _ (below_more n more le) p.nodes h.nodes; records = h.records }
-
-  -- a node stays in range
-  pub node_more : (node : Node) → IsNodeIn n node → IsNodeIn more node
-  node_more node h = (node_exactly more 0 node).1 (part_more _ ((node_exactly n 0 node).0 h))
-
-  -- a place stays in range
-  pub place_more : (place : NatMitLoc) → IsPlaceIn n place → IsPlaceIn more place
-  place_more place h = (place_exactly more 0 place).1 (part_more _ ((place_exactly n 0 place).0 h))
