@@ -1,5 +1,6 @@
 -- An entry by its number, in lists of entries that are made of others.
-use Rattle.std.proofs.Common.{rules, ◌≡◌, ◌≢◌, ℕ, zero, suc, ◌+◌, ◌⊎◌, inl, inr, List, [], ◌∷◌, ◌++◌, length, refl, sym, ap}
+use Rattle.std.proofs.Common.{rules, ◌≡◌, ◌≢◌, ℕ, zero, suc, ◌+◌, ◌⊎◌, inl, inr, List, [], ◌∷◌, ◌++◌, length}
+use Rattle.std.proofs.Common.{refl, sym, ap}
 use Rattle.std.proofs.Common.{◌∙◌, ◌<◌, Some, slice_get, arith, count_by, cond, subst}
 use Rattle.std.proofs.lemmas.List.Sums.{sum_by-cons}
 use Rattle.std.proofs.lemmas.Option.{same_Some, slice_get_within}
@@ -41,7 +42,8 @@ module _ {S : Type 0} where
   each-with_mark P (e ∷ es) zero k marked other (suc j) f at = other (suc j) f at (search rules)
   each-with_mark P (e ∷ es) (suc i) k marked other zero f at = other zero f at (search rules)
   each-with_mark P (e ∷ es) (suc i) k marked other (suc j) f at =
-      each-with_mark (λ n. P (suc n)) es i k marked (λ n d there apart. other (suc n) d there (λ q. apart (omega arith)))
+      each-with_mark (λ n. P (suc n)) es i k marked
+      (λ n d there apart. other (suc n) d there (λ q. apart (omega arith)))
       j f at
 
   -- so an entry afterwards is an entry from before, but for the mark if it is i

@@ -58,7 +58,8 @@ module _ {S : Type 0} (m : StepMachine S) where
       → At (with_mark es i Taken) j f → WasThere es j f
   taken_there es i e next =
       each-with_mark (WasThere es) es i Taken
-      (λ d at. (d, at, refl, refl, λ x. cc (at, next.entry, next.is_open, x))) (λ j d at apart. (d, at, refl, refl, λ x. x))
+      (λ d at. (d, at, refl, refl, λ x. cc (at, next.entry, next.is_open, x)))
+      (λ j d at apart. (d, at, refl, refl, λ x. x))
 
   pub taken_grows : (es : List (Entry S)) (i : ℕ) (e : Entry S) → IsNext m.steps es i e
       → GrowsFrom m.steps es (with_mark es i Taken)

@@ -1,6 +1,7 @@
 -- What follows for the entries of a book. Its machine, which states count as one, and which findings are right are the
 -- book's own.
-use Rattle.std.proofs.Common.{◌≡◌, ℕ, ◌-◌, ◌<◌, ◌≤◌, ◌++◌, ◌∷◌, [], inl, inr, Bool, not, Option, Some, None, List, length}
+use Rattle.std.proofs.Common.{◌≡◌, ℕ, ◌-◌, ◌<◌, ◌≤◌, ◌++◌, ◌∷◌, [], inl, inr, Bool, not, Option, Some, None, List}
+use Rattle.std.proofs.Common.{length}
 use Rattle.std.proofs.Common.{map, refl, reverse, sym, ap, ◌∙◌, arith, position}
 use Rattle.std.specs.List.{range_with_len}
 use Rattle.std.specs.declared.sync.Arc.{Arc}

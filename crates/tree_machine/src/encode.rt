@@ -18,9 +18,9 @@ use std::alloc::Global;
 ///
 /// A memory with the place that each thread holds has two codes: its own, by the numbers of its nodes and records, and
 /// that of its form. Both are codes cut at a front: what comes in front is of the memory alone. So after a step that
-/// left the memory as it was, the code begins as that of the step's source. `read_front` and `read_behind` decode both. `copy_mem_into`
-/// and `only_reads` are the two shortcuts for steps in place: an explorer keeps a copy of the memory in a buffer that
-/// it reuses, and none where an access only reads.
+/// left the memory as it was, the code begins as that of the step's source. `read_front` and `read_behind` decode both.
+/// `copy_mem_into` and `only_reads` are the two shortcuts for steps in place: an explorer keeps a copy of the memory in
+/// a buffer that it reuses, and none where an access only reads.
 pub trait Encode: Machine {
     ghost use Rattle.tree_machine.specs.declared.front.Front.{Front};
 

@@ -6,7 +6,8 @@ use Rattle.sched_program.specs.Laws.Exact.{nat_exact, list_exact}
 use Rattle.tree_machine.proofs.state_reading.read_front.Goals as goal
 
 known_first : (front bytes known rest : List ℕ) → known ≡ front
-    → pointwise nat_eq (take (length known) bytes) known ≡ true → rest ≡ drop (length known) bytes → bytes ≡ front ++ rest
+    → pointwise nat_eq (take (length known) bytes) known ≡ true → rest ≡ drop (length known) bytes
+    → bytes ≡ front ++ rest
 known_first front bytes known rest k same is =
     sym (take-append-drop (length known) bytes)
     ∙ (λ i. (list_exact nat_exact (take (length known) bytes) known same ∙ k) i ++ sym is i)

@@ -24,7 +24,12 @@ returns g c =
     (λ output printed. record {
       book = report.book;
       law = law;
-      asked = record { machine = refl; program = kept.asked.program; limit = kept.asked.limit; merge = kept.asked.merge };
+      asked = record {
+        machine = refl;
+        program = kept.asked.program;
+        limit = kept.asked.limit;
+        merge = kept.asked.merge;
+      };
       answer = report.answer;
       due = rw kept.totals at kept.due;
       headline = kept.headline;

@@ -35,7 +35,8 @@ returns-clause-passes g c =
       is.lines,
       is.whole,
       written_pass g.M.Machine.rules b law.law
-          ((law.test.2 _ _ law.machine.start_fits law.machine.start_fits).0 (law.test.1.itself _)) ready.0 ready.1 is.lines is.of_entries,
+          ((law.test.2 _ _ law.machine.start_fits law.machine.start_fits).0 (law.test.1.itself _)) ready.0 ready.1
+          is.lines is.of_entries,
       lines_count b.entries is.lines
           (omega (arith, slice_get_within b.entries 0 law.law.law.start.0 law.law.law.start.1)) is.of_entries,
     )
