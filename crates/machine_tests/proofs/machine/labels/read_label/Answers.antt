@@ -1,6 +1,5 @@
 -- What is read from the label of a state that fits the program fits it too.
 use Rattle.std.proofs.Common.{◌≡◌, ℕ, List, sym, ◌∙◌, subst}
-
 use Rattle.std.proofs.lemmas.Option.{IfSome_then}
 use Rattle.sched_program.specs.Program.{Program}
 use Rattle.tree_machine.specs.FormCode.{cut_code, named_code, state_code}
