@@ -48,6 +48,7 @@ RUNS: list[tuple[str, list[str]]] = [
     # The slowest programs that sweeps met (docs/SWEEPS.md).
     ("slowest-two-ellen.json", [*LIMITS, *NAMES]),
     ("slowest-two-nm.json", [*LIMITS, *NAMES]),
+    ("slowest-three-ellen.json", [*LIMITS, *NAMES]),
     ("slowest-three-nm.json", [*LIMITS, *NAMES]),
     ("slowest-waits-ellen.json", [*LIMITS, *NAMES]),
 ]
