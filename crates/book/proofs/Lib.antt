@@ -21,8 +21,6 @@ mod Draining
 mod StandingIn
 pub mod Machines
 mod Lent
-mod Loans
-mod Answered
 pub mod Ranges
 mod InBook
 pub mod Crossing

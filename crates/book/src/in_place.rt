@@ -5,11 +5,10 @@ ghost use Rattle.book.specs.ByLabel.{IsExpandedOf, PutsStepOf};
 
 use crate::expanding::TakenEntry;
 use crate::label::Label;
-use crate::lending::find_here;
 use crate::scratch::Scratch;
 use crate::successor::{Successor, naming};
 use lin::Order;
-use replay::Finding;
+use replay::{Finding, find_here};
 use sched_program::OutOfMemory;
 use std::alloc::Global;
 use std::snapshot::Snapshot;

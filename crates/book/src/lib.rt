@@ -9,7 +9,6 @@ mod expanding;
 mod expansion;
 mod in_place;
 mod label;
-mod lending;
 mod placing;
 mod recycled;
 mod rows;

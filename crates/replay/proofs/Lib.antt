@@ -2,3 +2,5 @@ pub mod Text
 mod BookFile
 mod Either
 mod Stopping
+mod Loans
+mod Answered

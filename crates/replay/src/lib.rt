@@ -4,10 +4,12 @@
 
 mod file;
 mod finding;
+mod lending;
 mod replayed;
 mod replaying;
 
 pub use crate::file::{CheckFault, check_book, push_head, push_line, push_start};
 pub use crate::finding::{Finding, fault_in, find, judged};
+pub use crate::lending::find_here;
 pub use crate::replayed::{Replay, ReplayFault};
 pub use crate::replaying::{replay, state_after};

@@ -1,6 +1,6 @@
 -- The way to a state that lines tell, as it is gone back.
 use Rattle.std.proofs.Common.{◌≡◌, ℕ, zero, suc, ◌+◌, ◌-◌, ◌<◌, ◌≤◌, Some, List, [], ◌∷◌, ◌++◌, length, reverse}
-use Rattle.std.proofs.Common.{refl, arith, slice_get}
+use Rattle.std.proofs.Common.{refl, arith, slice_get, subst}
 use Rattle.std.proofs.lemmas.List.{reverse-append, length_push}
 use Rattle.std.proofs.lemmas.Option.{slice_get_within}
 use Rattle.sched_program.specs.Program.{Program}
@@ -11,7 +11,7 @@ use Rattle.tree_machine.proofs.Lists.{get_at, get-append_left, get-append_right}
 use Rattle.replay.specs.Findings.{machine_of}
 use Rattle.replay.specs.Schedule.{run, after}
 use Rattle.replay.specs.declared.file.line.BookLine.{BookLine}
-use Rattle.replay.specs.BookFile.Replays.{Reaches, Continues, AreReplayed}
+use Rattle.replay.specs.BookFile.Replays.{AreReplayed, Continues, IsShown, Reaches}
 use Rattle.replay.proofs.BookFile.Replayed.{count_states, front}
 
 module _ {Machine Memory Place Form : Type 0} (rules : Rules Memory Place) (program : Program) where
@@ -22,6 +22,7 @@ module _ {Machine Memory Place Form : Type 0} (rules : Rules Memory Place) (prog
     pub at : slice_get states line.parent ≡ Some parent
     pub earlier : line.parent < index
     pub step : step rules program parent line.thread ≡ Some state
+    pub shown : IsShown rules program state line.order
 
   -- each line has a state behind the first ones, the step that it tells
   step_behind : (before : List (State Machine Memory Place Form)) (lines : List BookLine)
@@ -41,6 +42,7 @@ module _ {Machine Memory Place Form : Type 0} (rules : Rules Memory Place) (prog
           at = stays line.parent reached.parent (get-append_left before (so.0 ∷ []) _ _ reached.at);
           earlier = omega (arith, slice_get_within before line.parent reached.parent reached.at);
           step = reached.step;
+          shown = rw is at so.1.1;
         },
       )
   step_behind before (first ∷ rest) states so (suc k) line at =
@@ -71,6 +73,25 @@ module _ {Machine Memory Place Form : Type 0} (rules : Rules Memory Place) (prog
   told_by lines states so k line at =
       let place : suc k ≡ 1 + k = omega arith in
       rw place (step_behind (start rules program ∷ []) lines states so.1 k line at)
+
+  -- the empty order shows the start
+  pub start_shown : (lines : List BookLine) (states : List (State Machine Memory Place Form))
+      → AreReplayed rules program lines states → (state : State Machine Memory Place Form)
+      → slice_get states 0 ≡ Some state → IsShown rules program state []
+  start_shown lines states so state at =
+      let first = front rules program (start rules program ∷ []) lines states so.1 0 (start rules program) refl in
+      let same : start rules program ≡ state = cc in
+      subst (λ x. IsShown rules program x []) same so.0
+
+  -- behind it a line's order shows the state that it tells
+  pub line_shown : (lines : List BookLine) (states : List (State Machine Memory Place Form))
+      → AreReplayed rules program lines states → (k : ℕ) (line : BookLine) → slice_get lines k ≡ Some line
+      → (state : State Machine Memory Place Form) → slice_get states (suc k) ≡ Some state
+      → IsShown rules program state line.order
+  line_shown lines states so k line is state at =
+      let (here, told, by) = told_by lines states so k line is in
+      let same : here ≡ state = cc in
+      subst (λ x. IsShown rules program x line.order) same by.shown
 
 -- a way that is gone back so far, along lines
 module _ {Machine Memory Place Form : Type 0} {rules : Rules Memory Place} {program : Program} (lines : List BookLine)

@@ -1,8 +1,10 @@
 //! The replay of the entries of a book file, line by line.
-ghost use Rattle.std.specs.Prelude.{◌≡◌, ◌<◌, ◌⊎◌, [], List, None, length, IfOk, IfErr, OnOk};
-ghost use Rattle.tree_machine.specs.Step.{start, Fits};
+ghost use Rattle.std.specs.Prelude.{◌≡◌, ◌<◌, ◌≤◌, ◌⊎◌, [], List, None, length, IfOk, IfErr, IsTrue, OnOk, Some, slice_get};
+ghost use Rattle.sched_program.specs.declared.operation.OpId.{OpId};
+ghost use Rattle.tree_machine.specs.Step.{start, step, Fits};
+ghost use Rattle.tree_machine.specs.Undoing.{TakesBack};
 ghost use Rattle.tree_machine.specs.declared.state.State.{State};
-ghost use Rattle.replay.specs.BookFile.Kept.{AreLabelsOf, IsSource};
+ghost use Rattle.replay.specs.BookFile.Kept.{AreLabelsOf, IsSource, StandsForEntry};
 ghost use Rattle.replay.specs.BookFile.Replays.{AreReplayed, IsAmiss, IsFirstAmiss, IsShown, IsUnshown, Tells};
 ghost use Rattle.replay.specs.Labels.{named_by};
 
@@ -11,11 +13,12 @@ use crate::file::labels::Labels;
 use crate::file::line::BookLine;
 use crate::file::recalling::{Input, recall};
 use crate::file::replayer::Replayer;
+use crate::lending::reply_since;
 use lin::check_order;
 use sched_program::{OpId, Program};
 use std::alloc::Global;
 use std::snapshot::Snapshot;
-use tree_machine::{Bytes, Encode, Naming, State, StepFault};
+use tree_machine::{Bytes, Encode, Naming, State, StepFault, Undo};
 
 /// Whether an order shows that a state is correct. `number` is the line of its entry.
 fn test_state<M: Encode>(
@@ -43,6 +46,88 @@ fn test_state<M: Encode>(
     } else {
         Err(CheckFault::History(number))
     }
+}
+
+/// The order that shows an entry's state: its line has it, and that of the start is empty.
+fn order_of_entry<'a, M: Encode>(input: &'a Input<'_, M>, index: usize) -> &'a [OpId]
+    requires { index ≤ length input.now.lines.now }
+    ensures { (states : List (State M M.Mem M.Loc M.Form)) (state : State M M.Mem M.Loc M.Form)
+        → AreReplayed (M.rules input.now.machine) input.now.program.now input.now.lines.now states
+        → slice_get states index ≡ Some state
+        → IsShown (M.rules input.now.machine) input.now.program.now state result.now }
+{
+    if index == 0 {
+        return &[];
+    }
+    input.lines[index - 1].order.as_slice()
+}
+
+/// Whether what shows the state before a step shows the state after it, too: nothing is at fault there, and the step ended
+/// no operation.
+fn is_still_shown<M: Encode>(
+    machine: M,
+    program: &Program,
+    source: &Snapshot<State<M>>,
+    thread: u8,
+    undo: &Undo<M>,
+    next: &State<M>,
+) -> bool
+    requires step { step (M.rules machine) program.now source.now.value thread ≡ Some next.now }
+    requires back { TakesBack source.now.value thread undo.now.thread undo.now.reads undo.now.memory next.now }
+    requires fits { Fits (M.rules machine) program.now next.now }
+    ensures { IsTrue result → (order : List OpId) → IsShown (M.rules machine) program.now source.now.value order
+        → IsShown (M.rules machine) program.now next.now order }
+{
+    // Proofs alone read these.
+    let _ = source;
+    let _ = program;
+    if next.astray().is_some() {
+        return false;
+    }
+    if !undo.reads() && !machine.ordered(next.memory()) {
+        return false;
+    }
+    match reply_since(undo.thread(), next, thread) {
+        Some(_) => false,
+        None => true,
+    }
+}
+
+/// Whether a line's order shows the state that its step reached in the replayer. `number` is the line of its entry. The
+/// order of the parent is tested no second time where the step ended no operation.
+fn test_step<M: Encode>(
+    alloc: Global,
+    input: &Input<'_, M>,
+    line: &BookLine,
+    source: &Snapshot<State<M>>,
+    replayer: &Replayer<M>,
+    number: usize,
+) -> Result<(), CheckFault>
+    requires stands { StandsForEntry (M.rules input.now.machine) input.now.program.now input.now.lines.now
+        line.now.parent source.now.value }
+    requires kept { (states : List (State M M.Mem M.Loc M.Form))
+        × AreReplayed (M.rules input.now.machine) input.now.program.now input.now.lines.now states }
+    requires step { step (M.rules input.now.machine) input.now.program.now source.now.value line.now.thread
+        ≡ Some replayer.now.state }
+    requires back { TakesBack source.now.value line.now.thread replayer.now.undo.thread replayer.now.undo.reads
+        replayer.now.undo.memory replayer.now.state }
+    requires fits { Fits (M.rules input.now.machine) input.now.program.now replayer.now.state }
+    ensures shown { IfOk result
+        (λ _. IsShown (M.rules input.now.machine) input.now.program.now replayer.now.state line.now.order) }
+    ensures unshown { IfErr result (λ fault. (fault ≡ CheckFault.OutOfMemory)
+        ⊎ IsUnshown (M.rules input.now.machine) input.now.program.now replayer.now.state line.now.order number fault) }
+{
+    // Whoever reads a program knows that it meets the limits.
+    let _ = input.program.initial();
+    let (machine, program) = (input.machine, input.program);
+    let order = line.order.as_slice();
+    let undo = &replayer.undo;
+    if order == order_of_entry(input, line.parent as usize)
+        && is_still_shown(machine, program, source, line.thread, undo, &replayer.state)
+    {
+        return Ok(());
+    }
+    test_state(alloc, machine, program, &replayer.state, order, number)
 }
 
 /// The label of the entry after these, by its line: its parent's state is recalled, and the step is made there, and
@@ -89,15 +174,7 @@ fn label_of_line<M: Encode>(
         Err(StepFault::NotEnabled) => return Err(CheckFault::Step(number)),
         Err(StepFault::OutOfMemory) => return Err(CheckFault::OutOfMemory),
     }
-    let order = line.order.as_slice();
-    test_state(
-        alloc,
-        input.machine,
-        input.program,
-        &replayer.state,
-        order,
-        number,
-    )?;
+    test_step(alloc, input, line, &source, replayer, number)?;
     let spare = Vec::new(alloc);
     let label = replayer.label_of_step(alloc, input, before, &source, thread, spare)?;
     replayer

@@ -35,18 +35,21 @@ returns-in-Err-NotEnabled-clause-amiss g c =
     input.lines.now c.args.line.now c.recall.new.replayer.state c.in_ok-recall.ensures.stands states so
     (c.len-number.ensures ∙ same_count c.requires.kept states so) none)
 
-pub returns-in_err-test_state-clause-amiss : goal.returns-in_err-test_state-clause-amiss
-returns-in_err-test_state-clause-amiss g c =
+pub test_step-requires-clause-stands : goal.test_step-requires-clause-stands
+test_step-requires-clause-stands g c κs within = rw c.of-source.ensures c.in_ok-recall.ensures.stands
+
+pub returns-in_err-test_step-clause-amiss : goal.returns-in_err-test_step-clause-amiss
+returns-in_err-test_step-clause-amiss g c =
     let bound = g.met.M.Machine g.world.𝓛 g.world.𝓜 g.world.𝓡 ((λ s x. x), (λ x. x), (λ x. x), λ x. x) in
     let input = c.args.input.now in
-    let p = err_from_is_err_and c.from_residual-in_err-test_state.result c.from_residual-in_err-test_state.ensures.1 in
-    rw (p.1, p.2) (elim (rw c.as_slice-order.ensures at c.in_err-test_state.ensures.unshown) [
+    let p = err_from_is_err_and c.from_residual-in_err-test_step.result c.from_residual-in_err-test_step.ensures.1 in
+    rw (p.1, p.2) (elim c.in_err-test_step.ensures.unshown [
       | inl memory ↦ inl memory
       | inr unshown ↦ inr (λ states so. step_amiss (bound.lawful input.machine) c.initial.ensures.limits
           (bound.forms input.machine) input.lines.now c.args.line.now c.recall.new.replayer.state
           c.in_ok-recall.ensures.stands states
           so c.step_here.new.self c.in-Ok.ensures.step (c.len-number.ensures ∙ same_count c.requires.kept states so)
-          c.in_err-test_state.field-0.0 unshown)
+          c.in_err-test_step.field-0.0 unshown)
     ])
 
 pub returns-clause-tells : goal.returns-clause-tells
@@ -57,4 +60,4 @@ returns-clause-tells g c states so =
     c.args.line.now c.recall.new.replayer.state c.in_ok-recall.ensures.stands states so c.step_here.new.self
     c.in-Ok.ensures.step
     g.M.Encode.form_code c.in_ok-label.label c.in_ok-label.ensures.label
-    (rw c.as_slice-order.ensures at c.in_ok-test_state.ensures.shown)
+    c.in_ok-test_step.ensures.shown

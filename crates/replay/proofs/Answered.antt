@@ -21,8 +21,8 @@ use Rattle.tree_machine.specs.declared.state.Thread.{Thread}
 use Rattle.tree_machine.specs.declared.state.State.{State}
 use Rattle.tree_machine.specs.Alike.{notes_of, replies_of}
 use Rattle.tree_machine.proofs.Lists.{get-set_other, get-map, get-set_same, get_at, map-get}
-use Rattle.book.proofs.Loans.{value_in, name, value_from_start, pushed_there, step_gone, HasGone, now_there, stated}
-use Rattle.book.proofs.Loans.{replies_now, notes_still}
+use Rattle.replay.proofs.Loans.{value_in, name, value_from_start, pushed_there, step_gone, HasGone, now_there, stated}
+use Rattle.replay.proofs.Loans.{replies_now, notes_still}
 
 -- ---- lists
 pushed_elsewhere : {X : Type 0} (xs : List X) (x : X) (i : ℕ) → i ≢ length xs

@@ -1,6 +1,6 @@
 use Rattle.std.proofs.Common.{◌≤◌, All, take}
 use Rattle.std.specs.Prelude.{slice_index}
-use Rattle.book.proofs.lending.is_last.Given as goal
+use Rattle.replay.proofs.lending.is_last.Given as goal
 
 abbrev pub invariant-loop-thread : goal.invariant-loop-thread
 invariant-loop-thread g l =

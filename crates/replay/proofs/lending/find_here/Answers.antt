@@ -1,9 +1,9 @@
 -- A step that ended no operation leaves the order as it was, and one that ended the last operation extends it.
 use Rattle.std.proofs.Common.{Some, ap, sym, ◌∙◌}
 use Rattle.std.proofs.lemmas.Option.{same_Some}
-use Rattle.book.proofs.Answered.{step_replied}
-use Rattle.book.proofs.Loans.{step_silent}
-use Rattle.book.proofs.lending.find_here.Goals as goal
+use Rattle.replay.proofs.Answered.{step_replied}
+use Rattle.replay.proofs.Loans.{step_silent}
+use Rattle.replay.proofs.lending.find_here.Goals as goal
 
 pub returns-in-Some-clause-some : goal.returns-in-Some-clause-some
 returns-in-Some-clause-some g c = c.in-Some.ensures.some c.args.program.now

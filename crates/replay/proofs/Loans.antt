@@ -12,7 +12,7 @@ use Rattle.sched_program.specs.History.{History, reply}
 use Rattle.sched_program.specs.declared.operation.OpId.{OpId}
 use Rattle.lin.specs.Keys.{Keys, keys_of, keys_after, reply_on}
 use Rattle.lin.specs.Linearization.{IsLinearization, GivesReplies}
-use Rattle.lin.proofs.Lists.{IsSomeAnd-value, IsSomeAnd-of}
+use Rattle.lin.proofs.Lists.{IsSome-value, IsSomeAnd-value, IsSomeAnd-of}
 use Rattle.tree_machine.specs.Rules.{Rules}
 use Rattle.tree_machine.specs.History.{named, all_named, history_of}
 use Rattle.tree_machine.specs.Step.{step, after_access, at_step, notes_at_step, finished_counts, place_or}
@@ -26,7 +26,6 @@ use Rattle.std.specs.Option.{option_to_list}
 use Rattle.std.proofs.lemmas.List.{map-set}
 use Rattle.std.proofs.Math.Seq.{map-set_same}
 use Rattle.tree_machine.proofs.States.{step_parts}
-use Rattle.book.proofs.Lent.{some_value}
 
 -- ---- values beside names
 abbrev pub value_in : {V : Type 0} → List (List V) → ℕ → ℕ → Option V
@@ -127,12 +126,12 @@ module _ (program : Program) (old new : History) (finished : new.finished ≡ ol
 
   pub lends : (order : List OpId) → IsLinearization program old order → IsLinearization program new order
   lends order is = record {
-    begun = (λ k d less. let b = some_value _ (is.begun k d less) in rw (begun (get_or order k d) b.0 b.1) refl);
+    begun = (λ k d less. let b = IsSome-value _ (is.begun k d less) in rw (begun (get_or order k d) b.0 b.1) refl);
     distinct = is.distinct;
     complete = (λ a h. is.complete a (rw (← finished) h));
     in_time = (λ i j a b at_i at_j before.
         let began = rw (get_or_from_slice_get order j b b at_j) at (is.begun j b (slice_get_within order j b at_j)) in
-        let note = some_value _ began in
+        let note = IsSome-value _ began in
         is.in_time i j a b at_i at_j (rw (begun b note.0 note.1 ∙ sym note.1) at before));
     replies = gives_still (keys_of program.initial) order is.replies;
   }

@@ -3,7 +3,7 @@ use Rattle.std.specs.Prelude.{slice_index}
 use Rattle.std.proofs.lemmas.List.{take_all}
 use Rattle.std.proofs.lemmas.List.Elements.{All-more}
 use Rattle.tree_machine.specs.declared.state.Thread.{Thread}
-use Rattle.book.proofs.lending.is_last.Goals as goal
+use Rattle.replay.proofs.lending.is_last.Goals as goal
 
 pub loop-thread-preserved : goal.loop-thread-preserved
 loop-thread-preserved g c =

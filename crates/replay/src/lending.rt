@@ -9,14 +9,14 @@ ghost use Rattle.tree_machine.specs.declared.state.Thread.{Thread as Standing};
 ghost use Rattle.replay.specs.declared.finding.Finding.TheVariants.{Sound};
 ghost use Rattle.replay.specs.Findings.{IsFindingOf};
 
+use crate::finding::{Finding, fault_in, judged};
 use lin::{Order, order_with_reply};
-use replay::{Finding, fault_in, judged};
 use sched_program::{OpId, OutOfMemory, Program};
 use std::alloc::Global;
 use tree_machine::{Encode, ShortNote, State, StepOrigin, Thread};
 
 /// The operation that a thread has ended since `was`, with its reply, if it ended one.
-fn reply_since<M: Encode>(was: &Thread<M::Loc>, next: &State<M>, thread: u8) -> Option<(OpId, bool)>
+pub(crate) fn reply_since<M: Encode>(was: &Thread<M::Loc>, next: &State<M>, thread: u8) -> Option<(OpId, bool)>
     ensures { MatchOption result
         ((b : Standing M.Loc) → slice_get next.now.threads thread ≡ Some b
         → slice_get b.replies (length was.now.replies) ≡ None)
@@ -82,7 +82,7 @@ fn fault_here<M: Encode>(machine: M, next: &State<M>, reads: bool) -> Option<Fin
 /// reused with that operation in it, where the operation replied what it replies there. Only
 /// otherwise is the history built and judged from scratch.
 #[inline(always)]
-pub(crate) fn find_here<M: Encode>(
+pub fn find_here<M: Encode>(
     alloc: Global,
     machine: M,
     program: &Program,
