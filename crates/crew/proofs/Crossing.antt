@@ -50,15 +50,15 @@ module _ (a : NamedLft) (M G R Mem Loc Form : RattleType)
     (lh : hash.Ghosts Loc.Denot) (fp : partial.Ghosts Form.Denot)
     (fh : hash.Ghosts Form.Denot) where
   module _ (m : IsSync M) (gate : IsSync G) (threads : IsSync R)
-      (scratch : IsSend (Scratch.the_row M Mem Loc Form e g mp ap ah lp lh fp fh)) where
-    exploration_sync : IsSync (Exploration.the_field a M G R Mem Loc Form e g mp ap ah lp lh fp fh).row
-    exploration_sync = search (program_sync, sendable, crosses) depth 30 fits 10000
-
-  module _ (exploration : IsSync (Exploration.the_field a M G R Mem Loc Form e g mp ap ah lp lh fp fh).row)
+      (scratch : IsSend (Scratch.the_row M Mem Loc Form e g mp ap ah lp lh fp fh))
       (send : IsSend (Book.the_row M Mem Loc Form e g mp ap ah lp lh fp fh))
       (sync : IsSync (Book.the_row M Mem Loc Form e g mp ap ah lp lh fp fh)) where
+    exploration_sync : IsSync (Exploration.the_field a M G R Mem Loc Form e g mp ap ah lp lh fp fh).row
+    exploration_sync = search (program_sync, slots_sync, sendable, crosses) depth 30 fits 10000
+
+  module _ (exploration : IsSync (Exploration.the_field a M G R Mem Loc Form e g mp ap ah lp lh fp fh).row) where
     whole_sync : IsSync (LayerRun.the_row a M G R Mem Loc Form e g mp ap ah lp lh fp fh)
-    whole_sync = search (claims_sync, slots_sync, sendable, crosses) depth 30 fits 10000
+    whole_sync = search (claims_sync, sendable, crosses) depth 30 fits 10000
 
   module _ (m : IsSend M) (mem : IsSend Mem) (loc : IsSend Loc) (form : IsSend Form) (m' : IsSync M)
       (mem' : IsSync Mem) (loc' : IsSync Loc) (form' : IsSync Form) (gate : IsSync G) (threads : IsSync R) where
@@ -66,6 +66,6 @@ module _ (a : NamedLft) (M G R Mem Loc Form : RattleType)
     run_sync =
         whole_sync
         (exploration_sync m' gate threads
-        (scratch_send M Mem Loc Form e g mp ap ah lp lh fp fh m mem loc form m' mem' loc' form'))
+        (scratch_send M Mem Loc Form e g mp ap ah lp lh fp fh m mem loc form m' mem' loc' form')
         (book_send M Mem Loc Form e g mp ap ah lp lh fp fh m mem loc form m' mem' loc' form')
-        (book_sync M Mem Loc Form e g mp ap ah lp lh fp fh m mem loc form m' mem' loc' form')
+        (book_sync M Mem Loc Form e g mp ap ah lp lh fp fh m mem loc form m' mem' loc' form'))

@@ -11,24 +11,37 @@ use options::Options;
 use reports::{Report, Share, explore_alone, report_of};
 use sched_program::{OutOfMemory, Program};
 use std::alloc::Global;
-use std::sync::{Mutex, Wait};
+use std::sync::{Mutex, RwLock, Wait};
 use std::thread::Threads;
 use tree_machine::Encode;
 
-/// Lets the options' number of workers expand the layers. Returns the entry for whose steps one of
-/// them found no room, what each did, and the book, of which nothing is promised.
+/// Lets the options' number of workers expand the layers of a book. Returns the entry for whose steps one of them found
+/// no room, and what each did. Of what they leave in the book nothing is promised.
 fn work_of_all<M: Encode, G: Gate, R: Threads + Wait + Sync>(
+    rt: &R,
     alloc: Global,
-    exploration: &Exploration<'_, M, G, R>,
-    book: Book<M>,
+    machine: M,
+    program: &Program,
     options: Options,
-) -> Result<(Option<usize>, Vec<Share>, Book<M>), OutOfMemory>
+    gate: &G,
+    book: &RwLock<Book<M>>,
+) -> Result<(Option<usize>, Vec<Share>), OutOfMemory>
     ensures { IfOk result (λ w. length w.1.items ≡ options.workers) }
 {
+    let scratches = Mutex::new(Vec::new(alloc));
+    let exploration = Exploration {
+        rt,
+        alloc,
+        machine,
+        program,
+        gate,
+        book,
+        scratches: &scratches,
+    };
     let mut workers = workers_of(alloc, options.workers())?;
-    let book = exploration.expand_layers(options.steps(), book, workers.as_mut_slice())?;
+    exploration.expand_layers(options.steps(), workers.as_mut_slice())?;
     let cut = cut_of(workers.as_slice());
-    Ok((cut, shares_of(alloc, workers.as_slice())?, book))
+    Ok((cut, shares_of(alloc, workers.as_slice())?))
 }
 
 /// Explores by all workers at once. None where the book that they leave does not give the answer.
@@ -45,17 +58,9 @@ fn explore_together<M: Encode, G: Gate, R: Threads + Wait + Sync>(
 {
     let limit = options.limit() as usize;
     let book = Book::open(alloc, machine, program.copy(alloc)?, limit, options.merge())?;
-    let scratches = Mutex::new(Vec::new(alloc));
-    let exploration = Exploration {
-        rt,
-        alloc,
-        machine,
-        program,
-        gate,
-        scratches: &scratches,
-    };
-    let (cut, shares, book) = work_of_all(alloc, &exploration, book, options)?;
-    report_of(alloc, machine, program, options, book, cut, shares)
+    let book = RwLock::new(book);
+    let (cut, shares) = work_of_all(rt, alloc, machine, program, options, gate, &book)?;
+    report_of(alloc, machine, program, options, book.into_inner(), cut, shares)
 }
 
 /// Explores every schedule of a program up to the options' number of steps, by the options' number

@@ -48,7 +48,7 @@ fn places_of(
     Ok(places)
 }
 
-/// What all layers of an exploration have in common but for the book.
+/// What all layers of an exploration have in common.
 #[derive(Drop)]
 pub struct Exploration<'a, M: Encode, G: Gate, R: Wait> {
     pub rt: &'a R,
@@ -56,6 +56,7 @@ pub struct Exploration<'a, M: Encode, G: Gate, R: Wait> {
     pub machine: M,
     pub program: &'a Program,
     pub gate: &'a G,
+    pub book: &'a RwLock<Book<M>>,
     /// What workers left of their scratches at the end of a layer, for those of the next.
     pub scratches: &'a Mutex<Vec<Scratch<M>>>,
 }
@@ -75,7 +76,6 @@ pub struct LayerRun<'a, M: Encode, G: Gate, R: Wait> {
     pub round: usize,
     /// How many entries a worker expands between two tests of the lock.
     pub stride: usize,
-    pub book: RwLock<Book<M>>,
     pub ghost places: { start + claims.size.len ≡ end },
     pub ghost bounded: { end < 2 ^ 64 },
     pub ghost some: { 0 < stride },
@@ -85,18 +85,18 @@ impl<'a, M: Encode, G: Gate, R: Wait> LayerRun<'a, M, G, R> {
     /// The book to read. Unless `waits`, it is none while another worker has the book to write.
     pub fn read(&self, waits: bool) -> Option<RwLockReadGuard<'_, Book<M>>> {
         if waits {
-            Some(read_soon(self.exploration.rt, &self.book))
+            Some(read_soon(self.exploration.rt, self.exploration.book))
         } else {
-            self.book.try_read()
+            self.exploration.book.try_read()
         }
     }
 
     /// The book to write. Unless `waits`, it is none while another worker has the book.
     pub fn write(&self, waits: bool) -> Option<RwLockWriteGuard<'_, Book<M>>> {
         if waits {
-            Some(write_soon(self.exploration.rt, &self.book))
+            Some(write_soon(self.exploration.rt, self.exploration.book))
         } else {
-            self.book.try_write()
+            self.exploration.book.try_write()
         }
     }
 
@@ -163,7 +163,7 @@ impl<'a, M: Encode, G: Gate, R: Wait> LayerRun<'a, M, G, R> {
         if places.is_empty() {
             return Ok(Vec::new(alloc));
         }
-        let book = read_soon(self.exploration.rt, &self.book);
+        let book = read_soon(self.exploration.rt, self.exploration.book);
         self.entries_at(&*book, places.as_slice(), scratch)
     }
 }

@@ -6,10 +6,9 @@ use crate::gate::Gate;
 use crate::layer_run::{Exploration, LayerRun, round_of};
 use crate::starting::call_at_once;
 use crate::worker::{Worker, have_stopped, seat_all};
-use book::Book;
 use claims::Claims;
 use sched_program::OutOfMemory;
-use std::sync::{RwLock, Wait};
+use std::sync::Wait;
 use std::thread::Threads;
 use tree_machine::Encode;
 
@@ -52,19 +51,19 @@ impl<'a, M: Encode, G: Gate, R: Threads + Wait + Sync> Exploration<'a, M, G, R> 
             machine: self.machine,
             program: self.program,
             gate: self.gate,
+            book: self.book,
             scratches: self.scratches,
         }
     }
 
-    /// Expands the taken entries from `start` to below `end`. Returns the book.
+    /// Expands the taken entries from `start` to below `end`.
     fn expand_taken(
         &self,
         number: u16,
-        book: Book<M>,
         start: usize,
         end: usize,
         workers: &mut [Worker],
-    ) -> Result<Book<M>, OutOfMemory>
+    ) -> Result<(), OutOfMemory>
         requires some { 0 < length workers.old }
         requires bounded { length workers.old < 2 ^ 8 }
         requires row { start ≤ end }
@@ -74,66 +73,52 @@ impl<'a, M: Encode, G: Gate, R: Threads + Wait + Sync> Exploration<'a, M, G, R> 
         let places = end - start;
         let (claims, seats) = Claims::new(self.alloc, places, workers.len())?;
         seat_all(&claims, workers, seats);
-        let round = round_of(places, workers.len());
-        let stride = stride_of(workers.len());
         let run = LayerRun {
             exploration: self.again(),
             number,
             start,
             end,
             claims,
-            round,
-            stride,
-            book: RwLock::new(book),
+            round: round_of(places, workers.len()),
+            stride: stride_of(workers.len()),
         };
         work_at_once(self.rt, &run, workers);
-        let LayerRun { book, .. } = run;
-        Ok(book.into_inner())
+        Ok(())
     }
 
-    /// Expands the next layer. Returns whether there was one to expand, and the book. There is none
+    /// Takes the entries of the next layer: those from the first number returned to below the second. There is none
     /// where the book has an entry that is not sound.
-    fn expand_layer(
-        &self,
-        number: u16,
-        mut book: Book<M>,
-        workers: &mut [Worker],
-    ) -> Result<(bool, Book<M>), OutOfMemory>
-        requires some { 0 < length workers.old }
-        requires bounded { length workers.old < 2 ^ 8 }
-        ensures { length workers.new ≡ length workers.old }
+    fn take_next(&self) -> Option<(usize, usize)>
+        ensures { IfSome result (λ (start, end). (start ≤ end) × (end ≤ 2000000)) }
     {
+        let mut book = self.book.write(self.rt);
+        let book = &mut *book;
         if book.first_fault().is_some() {
-            return Ok((false, book));
+            return None;
         }
         book.law();
         let (start, end) = book.take_range();
         if start == end {
-            return Ok((false, book));
+            return None;
         }
-        let book = self.expand_taken(number, book, start, end, workers)?;
-        Ok((true, book))
+        Some((start, end))
     }
 
-    /// Expands the layers below a number of steps, until one is empty or a worker had to stop.
-    /// Returns the book.
-    pub fn expand_layers(
-        &self,
-        steps: u16,
-        mut book: Book<M>,
-        workers: &mut [Worker],
-    ) -> Result<Book<M>, OutOfMemory>
+    /// Expands the layers below a number of steps, until there is none to take or a worker had to stop.
+    pub fn expand_layers(&self, steps: u16, workers: &mut [Worker]) -> Result<(), OutOfMemory>
         requires some { 0 < length workers.old }
         requires bounded { length workers.old < 2 ^ 8 }
         ensures { length workers.new ≡ length workers.old }
     {
         for number in 0..steps {
-            let (expanded, left) = self.expand_layer(number, book, workers)?;
-            book = left;
-            if !expanded || have_stopped(workers)? {
-                return Ok(book);
+            let Some((start, end)) = self.take_next() else {
+                return Ok(());
+            };
+            self.expand_taken(number, start, end, workers)?;
+            if have_stopped(workers)? {
+                return Ok(());
             }
         }
-        Ok(book)
+        Ok(())
     }
 }
