@@ -1,7 +1,9 @@
 -- What labels tell of alike states.
-use Rattle.std.proofs.Common.{◌≡◌, ℕ, suc, ◌+◌, ◌<◌, inr, Some, Option, List, length, Contains, refl}
+use Rattle.std.proofs.Common.{◌≡◌, ℕ, suc, ◌+◌, ◌<◌, inr, Some, Option, List, [], ◌∷◌, ◌++◌, length, Contains}
+use Rattle.std.proofs.Common.{refl}
 use Rattle.std.proofs.Common.{arith, slice_get}
 use borrow.Author.Count.{below_more}
+use Rattle.std.proofs.lemmas.List.Elements.{Contains-append_left}
 use Rattle.std.proofs.lemmas.Option.{slice_get_within}
 use Rattle.lin.proofs.Lists.{Contains-slice_get, slice_get-Contains}
 use Rattle.sched_program.specs.Program.{Program, IsWithinLimits}
@@ -10,7 +12,7 @@ use Rattle.tree_machine.specs.Alike.{AreStatesAlike, state_form}
 use Rattle.tree_machine.specs.FormCode.{IsInjective, content_code}
 use Rattle.tree_machine.specs.Laws.Flat.{number_split}
 use Rattle.tree_machine.specs.Laws.FormCode.{content_readable}
-use Rattle.tree_machine.specs.Step.{step, Fits}
+use Rattle.tree_machine.specs.Step.{start, step, Fits}
 use Rattle.tree_machine.specs.declared.state.State.{State}
 use Rattle.tree_machine.proofs.Alike.{alike_step}
 use Rattle.tree_machine.proofs.Forms.{forms_alike}
@@ -18,12 +20,13 @@ use Rattle.tree_machine.proofs.Lists.{get-map, map-get}
 use Rattle.replay.specs.Closed.{IsAlikeToOneOf}
 use Rattle.replay.specs.Labels.{named_by}
 use Rattle.replay.specs.BookFile.Checks.{AreRefused, Pass}
-use Rattle.replay.specs.BookFile.Kept.{AreLabelsOf, AreStepsKnown, IsStepUnknown, StandsFor, StandsForEntry}
+use Rattle.replay.specs.BookFile.Kept.{AreLabelsOf, AreStepsKnown, IsEntryClosed, IsStepUnknown, StandsFor}
+use Rattle.replay.specs.BookFile.Kept.{StandsForEntry}
 use Rattle.replay.specs.BookFile.Replays.{AreReplayed}
 use Rattle.replay.specs.declared.file.fault.CheckFault.TheVariants.{Open}
 use Rattle.replay.specs.declared.file.line.BookLine.{BookLine}
 use Rattle.replay.proofs.BookFile.Recalled.{told_by}
-use Rattle.replay.proofs.BookFile.Replayed.{begins, each_fits, machine, same_count}
+use Rattle.replay.proofs.BookFile.Replayed.{begins, each_fits, first_described, machine, same_count}
 use Rattle.replay.proofs.BookFile.Twins.{one_label, step_there, turned}
 
 -- the steps of the first entries' states have labels that are known
@@ -41,6 +44,16 @@ abbrev pub IsStepKnown : {Machine Memory Place Form : Type 0} (rules : Rules Mem
 IsStepKnown {Machine} {Memory} {Place} {Form} rules program label_of labels s t =
     (next : State Machine Memory Place Form) → step rules program s t ≡ Some next → Contains labels (label_of next)
 
+-- one more line leaves the entries closed that were
+pub still_closed : {Machine Memory Place Form : Type 0} (rules : Rules Memory Place) (program : Program)
+    (label_of : State Machine Memory Place Form → List ℕ) (lines : List BookLine) (line : BookLine)
+    (labels : List (List ℕ)) (label : List ℕ) (i : ℕ) → IsEntryClosed rules program label_of lines labels i
+    → IsEntryClosed rules program label_of (lines ++ line ∷ []) (labels ++ label ∷ []) i
+still_closed rules program label_of lines line labels label i closed states so =
+    let (earlier, described, stays) = first_described rules program (start rules program ∷ []) lines line states so.1 in
+    let (s, at, known) = closed earlier (so.0, described) in
+    (s, stays i s at, λ t next leads. Contains-append_left labels (label ∷ []) (label_of next) (known t next leads))
+
 module _ {Machine Memory Place Form : Type 0} {rules : Rules Memory Place} {program : Program}
     (lawful : AreLawful rules) (limits : IsWithinLimits program) {form_of : Memory → List (Option Place) → Form}
     (forms : AreFormsExact rules form_of) (code : Form → List ℕ) where
@@ -57,16 +70,25 @@ module _ {Machine Memory Place Form : Type 0} {rules : Rules Memory Place} {prog
       let v_fits = (machine lawful limits).step_fits c w.0 t stands.fits w.1 in
       rw (one_label lawful forms u_fits v_fits w.2 code) (known t w.0 w.1)
 
-  -- .. and those of the next one too
-  pub known_next : (lines : List BookLine) (labels : List (List ℕ)) (i : ℕ) (c : State Machine Memory Place Form)
+  -- so that entry is closed
+  pub stands_closed : (lines : List BookLine) (labels : List (List ℕ)) (i : ℕ) (c : State Machine Memory Place Form)
       → StandsForEntry rules program lines i c → AreStepsKnown rules program label labels c
+      → IsEntryClosed rules program label lines labels i
+  stands_closed lines labels i c stands known states replayed =
+      let w = stands states replayed in
+      let fits = each_fits lawful limits lines states replayed i w.0 w.1 in
+      (w.0, w.1, twin_known labels {most = i} fits w.2 known)
+
+  -- .. and the next one too
+  pub known_next : (lines : List BookLine) (labels : List (List ℕ)) (i : ℕ)
+      → IsEntryClosed {Machine = Machine} rules program label lines labels i
       → AreKnownBelow rules program label lines labels i → AreKnownBelow rules program label lines labels (i + 1)
-  known_next lines labels i c stands known so states replayed =
+  known_next lines labels i closed so states replayed =
       below_more (λ j. (r : State Machine Memory Place Form) → slice_get states j ≡ Some r
       → AreStepsKnown rules program label labels r) i (so states replayed) (λ r at.
-      let w = stands states replayed in
+      let w = closed states replayed in
       let same : r ≡ w.0 = cc (w.1) in
-      twin_known labels {most = i} (each_fits lawful limits lines states replayed i r at) (rw same w.2) known)
+      rw same w.2)
 
   module _ {lines : List BookLine} {labels : List (List ℕ)} (kept : AreLabelsOf rules program label lines labels) where
     abbrev states : List (State Machine Memory Place Form)

@@ -86,6 +86,16 @@ module _ {Machine Memory Place Form : Type 0} (rules : Rules Memory Place) (prog
   front before (line ∷ lines) states so i s at =
       front (before ++ so.0 ∷ []) lines states so.2 i s (get-append_left before (so.0 ∷ []) i s at)
 
+  -- what more lines describe begins with what the first ones do
+  pub first_described : (before : List (State Machine Memory Place Form)) (lines : List BookLine) (line : BookLine)
+      (states : List (State Machine Memory Place Form)) → Continues rules program before (lines ++ line ∷ []) states
+      → (earlier : List (State Machine Memory Place Form)) × Continues rules program before lines earlier
+      × ((i : ℕ) (s : State Machine Memory Place Form) → slice_get earlier i ≡ Some s → slice_get states i ≡ Some s)
+  first_described before [] line states so = (before, refl, front before (line ∷ []) states so)
+  first_described before (first ∷ lines) line states so =
+      let (earlier, described, stays) = first_described (before ++ so.0 ∷ []) lines line states so.2 in
+      (earlier, (so.0, so.1, described), stays)
+
   count_from : (before : List (State Machine Memory Place Form)) (lines : List BookLine)
       (states : List (State Machine Memory Place Form)) → Continues rules program before lines states
       → length states ≡ length before + length lines
@@ -135,6 +145,11 @@ module _ {Machine Memory Place Form : Type 0} {rules : Rules Memory Place} {prog
       alike_itself rules form_of forms program (start rules program) machine.start_fits,
     )
 
+-- the lines up to one and with it
+pub take_next : (lines : List BookLine) (i : ℕ) (line : BookLine) → i < length lines → line ≡ get_or lines i line
+    → take (i + 1) lines ≡ take i lines ++ line ∷ []
+take_next lines i line less is = take_more lines i line less ∙ (λ j. take i lines ++ sym is j ∷ [])
+
 module _ {Machine Memory Place Form : Type 0} {rules : Rules Memory Place} {program : Program}
     {label_of : State Machine Memory Place Form → List ℕ} where
   pub count_labels : {lines : List BookLine} {labels : List (List ℕ)} → AreLabelsOf rules program label_of lines labels
@@ -168,13 +183,11 @@ module _ {Machine Memory Place Form : Type 0} {rules : Rules Memory Place} {prog
         → longer ≡ labels ++ label ∷ [] → AreLabelsOf rules program label_of (take (i + 1) lines) longer
     labels_next label longer tells made =
         let w = tells so.states so.replayed in
-        let more : take (i + 1) lines ≡ take i lines ++ line ∷ [] =
-        take_more lines i line less ∙ (λ j. take i lines ++ sym is j ∷ []) in
         record {
           states = so.states ++ w.0 ∷ [];
           replayed = (
             so.replayed.0,
-            rw more (continues_push rules program (start rules program ∷ []) (take i lines) line so.states w.0
+            rw (take_next lines i line less is) (continues_push rules program (start rules program ∷ []) (take i lines) line so.states w.0
                 so.replayed.1 w.1),
           );
           labelled = made ∙ (λ j. so.labelled j ++ w.2 j ∷ []) ∙ sym (map-append label_of so.states (w.0 ∷ []));

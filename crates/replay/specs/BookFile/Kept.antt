@@ -44,6 +44,13 @@ module _ {Machine Memory Place Form : Type 0} (rules : Rules Memory Place) (prog
     IsStepUnknown = (t : ℕ) × (next : State Machine Memory Place Form) × (step rules program state t ≡ Some next)
         × (Contains labels (label_of next) → ⊥)
 
+  -- the label of each step is known of the state at this index of those that the lines describe
+  abbrev pub IsEntryClosed : (State Machine Memory Place Form → List ℕ) → List BookLine → List (List ℕ) → ℕ → Type 0
+  IsEntryClosed label_of lines labels index = (states : List (State Machine Memory Place Form))
+      → AreReplayed rules program lines states
+      → (state : State Machine Memory Place Form) × (slice_get states index ≡ Some state)
+      × AreStepsKnown label_of labels state
+
 -- the state was decoded from the label of this entry, if there is one, whose parts begin at these offsets
 abbrev pub IsSource : {Machine Memory Place Form : Type 0} → (Front → Memory → List ℕ)
     → (Front → Memory → List (Option Place) → List ℕ) → List (List ℕ) → Option Source

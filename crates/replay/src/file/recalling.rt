@@ -1,5 +1,5 @@
 //! States that stand in for those of entries.
-ghost use Rattle.std.specs.Prelude.{◌≡◌, ◌<◌, List, Some, length, slice_get, IfOk, OnOk};
+ghost use Rattle.std.specs.Prelude.{◌≡◌, ◌<◌, ◌≤◌, List, Some, length, slice_get, take, IfOk, OnOk};
 ghost use Rattle.tree_machine.specs.declared.state.State.{State};
 ghost use Rattle.replay.specs.BookFile.Kept.{AreLabelsOf, IsSource, StandsForEntry};
 ghost use Rattle.replay.specs.BookFile.Replays.{AreReplayed};
@@ -21,6 +21,22 @@ pub struct Input<'a, M: Encode> {
     pub machine: M,
     pub program: &'a Program,
     pub lines: &'a [BookLine],
+}
+
+impl<'a, M: Encode> Input<'a, M> {
+    /// The input without the lines from this one on.
+    pub fn up_to(&self, end: usize) -> Input<'a, M>
+        requires { end ≤ length self.now.lines.now }
+        ensures machine { result.machine ≡ self.now.machine }
+        ensures program { result.program.now ≡ self.now.program.now }
+        ensures lines { result.lines.now ≡ take end self.now.lines.now }
+    {
+        Input {
+            machine: self.machine,
+            program: self.program,
+            lines: &self.lines[..end],
+        }
+    }
 }
 
 /// The threads on the way from the start to an entry, as its line and those of its ancestors have it.

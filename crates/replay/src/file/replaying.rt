@@ -1,13 +1,14 @@
 //! The replay of the entries of a book file, line by line.
-ghost use Rattle.std.specs.Prelude.{◌≡◌, ◌<◌, ◌≤◌, ◌⊎◌, [], List, None, length, IfOk, IfErr, IsTrue, OnOk, Some, slice_get};
+ghost use Rattle.std.specs.Prelude.{◌≡◌, ℕ, ◌+◌, ◌<◌, ◌≤◌, ◌⊎◌, [], All, List, None, length, IfOk, IfErr, IsTrue, OnOk, Some, slice_get, take};
 ghost use Rattle.sched_program.specs.declared.operation.OpId.{OpId};
 ghost use Rattle.tree_machine.specs.Step.{start, step, Fits};
 ghost use Rattle.tree_machine.specs.Undoing.{TakesBack};
 ghost use Rattle.tree_machine.specs.declared.state.State.{State};
-ghost use Rattle.replay.specs.BookFile.Kept.{AreLabelsOf, IsSource, StandsForEntry};
+ghost use Rattle.replay.specs.BookFile.Kept.{AreLabelsOf, IsEntryClosed, IsSource, StandsForEntry};
 ghost use Rattle.replay.specs.BookFile.Replays.{AreReplayed, IsAmiss, IsFirstAmiss, IsShown, IsUnshown, Tells};
 ghost use Rattle.replay.specs.Labels.{named_by};
 
+use crate::file::closing::note_closed;
 use crate::file::fault::CheckFault;
 use crate::file::labels::Labels;
 use crate::file::line::BookLine;
@@ -213,34 +214,82 @@ fn label_of_start<M: Encode>(
     )?)
 }
 
-/// The labels of the entries, the start's first, replayed one after the other. The replayer has the start's state.
+/// Replays the line with this index, and adds the label of its entry to those before. Returns the number of its parent.
+fn replay_line<M: Encode>(
+    alloc: Global,
+    input: &Input<'_, M>,
+    index: usize,
+    labels: &mut Labels,
+    replayer: &mut Replayer<M>,
+) -> Result<u32, CheckFault>
+    requires bounded { length input.now.lines.now < 2000000 }
+    requires within { index < length input.now.lines.now }
+    requires kept { AreLabelsOf {Machine = M} (M.rules input.now.machine) input.now.program.now
+        (named_by M.form_code (M.form_of input.now.machine)) (take index input.now.lines.now) labels.old }
+    requires source { IsSource M.front_code M.behind_code labels.old replayer.old.source replayer.old.state }
+    ensures kept { OnOk result (AreLabelsOf {Machine = M} (M.rules input.now.machine) input.now.program.now
+        (named_by M.form_code (M.form_of input.now.machine)) (take (index + 1) input.now.lines.now) labels.new) }
+    ensures parent { IfOk result (λ parent. parent < length labels.new) }
+    ensures closed { OnOk result ((entry : ℕ) → IsEntryClosed {Machine = M} (M.rules input.now.machine)
+        input.now.program.now (named_by M.form_code (M.form_of input.now.machine)) (take index input.now.lines.now)
+        labels.old entry → IsEntryClosed {Machine = M} (M.rules input.now.machine) input.now.program.now
+        (named_by M.form_code (M.form_of input.now.machine)) (take (index + 1) input.now.lines.now) labels.new entry) }
+    ensures source { OnOk result
+        (IsSource M.front_code M.behind_code labels.new replayer.new.source replayer.new.state) }
+    ensures amiss { IfErr result (λ fault. (fault ≡ CheckFault.OutOfMemory)
+        ⊎ IsFirstAmiss M M.Form (M.rules input.now.machine) input.now.program.now input.now.lines.now fault) }
+{
+    let line = &input.lines[index];
+    let earlier = input.up_to(index);
+    let label = label_of_line(alloc, &earlier, labels, line, replayer)?;
+    labels.push(label)?;
+    Ok(line.parent)
+}
+
+/// Whether the line with this index states a step of an entry.
+fn has_parent(lines: &[BookLine], index: usize, parent: u32) -> bool {
+    match lines.get(index) {
+        Some(line) => line.parent == parent,
+        None => false,
+    }
+}
+
+/// The labels of the entries, the start's first, replayed one after the other; and entries each of whose steps has one
+/// of them. They are looked for behind the last of the lines that state steps of one entry, while the replayer has its
+/// state. The replayer has the start's state first.
 pub fn replay_lines<M: Encode>(
     alloc: Global,
     input: &Input<'_, M>,
     replayer: &mut Replayer<M>,
-) -> Result<Labels, CheckFault>
+) -> Result<(Labels, Vec<u32>), CheckFault>
     requires bounded { length input.now.lines.now < 2000000 }
     requires start { replayer.old.state ≡ start (M.rules input.now.machine) input.now.program.now }
     requires fits { Fits (M.rules input.now.machine) input.now.program.now replayer.old.state }
     requires source { replayer.old.source ≡ None }
-    ensures kept { IfOk result (AreLabelsOf {Machine = M} (M.rules input.now.machine) input.now.program.now
-        (named_by M.form_code (M.form_of input.now.machine)) input.now.lines.now) }
-    ensures source { IfOk result (λ labels. IsSource M.front_code M.behind_code labels replayer.new.source
+    ensures kept { IfOk result (λ (labels, closed). AreLabelsOf {Machine = M} (M.rules input.now.machine)
+        input.now.program.now (named_by M.form_code (M.form_of input.now.machine)) input.now.lines.now labels) }
+    ensures closed { IfOk result (λ (labels, closed). All (IsEntryClosed {Machine = M} (M.rules input.now.machine)
+        input.now.program.now (named_by M.form_code (M.form_of input.now.machine)) input.now.lines.now labels)
+        closed.items) }
+    ensures source { IfOk result (λ (labels, closed). IsSource M.front_code M.behind_code labels replayer.new.source
         replayer.new.state) }
     ensures amiss { IfErr result (λ fault. (fault ≡ CheckFault.OutOfMemory)
         ⊎ IsFirstAmiss M M.Form (M.rules input.now.machine) input.now.program.now input.now.lines.now fault) }
 {
-    let first = label_of_start(alloc, input, replayer)?;
+    let start = label_of_start(alloc, input, replayer)?;
     let mut labels = Labels::new(alloc);
-    labels.push(first)?;
-    for (i, line) in input.lines.iter().enumerate() {
-        let earlier = Input {
-            machine: input.machine,
-            program: input.program,
-            lines: &input.lines[..i],
-        };
-        let next = label_of_line(alloc, &earlier, &labels, line, replayer)?;
-        labels.push(next)?;
+    labels.push(start)?;
+    let mut closed = Vec::new(alloc);
+    let mut first = 0;
+    for i in 0..input.lines.len() {
+        let parent = replay_line(alloc, input, i, &mut labels, replayer)?;
+        let next = i + 1;
+        if has_parent(input.lines, next, parent) {
+            continue;
+        }
+        let so_far = input.up_to(next);
+        note_closed(alloc, &so_far, &labels, parent, first, &mut closed, replayer)?;
+        first = next;
     }
-    Ok(labels)
+    Ok((labels, closed))
 }
