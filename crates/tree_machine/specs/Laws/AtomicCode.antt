@@ -1,7 +1,7 @@
 -- The bytes of the machine that does each operation at once determine what they are of.
-use Rattle.std.specs.Prelude.{◌≡◌, ℕ, List, [], ◌∷◌, ◌++◌, Option, Some, None, refl}
+use Rattle.std.specs.Prelude.{◌≡◌, ℕ, List, [], ◌∷◌, ◌++◌, Option, Some, None}
 use Rattle.std.specs.List.{flat_map}
-use Rattle.std.proofs.Common.{ap, arith, get_or, subst, sym}
+use Rattle.std.proofs.Common.{arith, subst, sym}
 use Rattle.tree_machine.specs.FormCode.{IsInjective, TellsWholly}
 use Rattle.tree_machine.specs.Atomic.{atomic_form, atomic_rules}
 use Rattle.tree_machine.specs.Rules.{ArePlacesInRange, DecodesForms}
@@ -13,13 +13,12 @@ use Rattle.tree_machine.specs.declared.atomic.AtomicLoc.TheVariants.{Do}
 held_readable : (places others : List (Option AtomicLoc)) (keys twins : List ℕ)
     → flat_map held_code places ++ 0 ∷ keys ≡ flat_map held_code others ++ 0 ∷ twins
     → (places ≡ others) × (keys ≡ twins)
-held_readable [] [] keys twins e = (refl, let same : keys ≡ twins = cc in same)
-held_readable [] (None ∷ others) keys twins e = absurd (omega (arith, ap (λ l. get_or l 0 0) e))
-held_readable (None ∷ places) (None ∷ others) keys twins e =
-    let rest = held_readable places others keys twins (cc) in (cc rest.0, rest.1)
+held_readable [] [] keys twins e = grind arith
+held_readable [] (None ∷ others) keys twins e = grind arith
+held_readable (None ∷ places) (None ∷ others) keys twins e = grind (arith, held_readable places others keys twins)
 held_readable (Some Do ∷ places) (Some Do ∷ others) keys twins e =
-    let rest = held_readable places others keys twins (cc) in (cc rest.0, rest.1)
-held_readable _ _ keys twins e = absurd (omega (arith, ap (λ l. get_or l 0 0) e))
+    grind (arith, held_readable places others keys twins)
+held_readable _ _ keys twins e = grind arith
 
 pub atomic_codes : IsInjective atomic_code
 atomic_codes a b e =

@@ -5,14 +5,13 @@ use Rattle.std.specs.Prelude.{Option, Some, None, nat_eq}
 use Rattle.std.specs.List.{All, AllByRecursion, IsDistinct}
 use Rattle.std.specs.Option.{option_map}
 use Rattle.std.proofs.lemmas.List.{length-map}
-use Rattle.std.proofs.lemmas.List.Elements.{recursion_from_All, All-from_recursion, All-from_get_or}
+use Rattle.std.proofs.lemmas.List.Elements.{recursion_from_All, All-from_recursion}
 use Rattle.std.proofs.lemmas.List.Folds.{list_any-append}
-use Rattle.std.proofs.lemmas.Option.{unwrap_or-slice_get}
 use Rattle.std.proofs.Math.Bool.{or-true}
 use Rattle.tree_machine.specs.Cells.{content_at, IsRooted, order_of}
 use Rattle.tree_machine.specs.Pairing.{IsAmong}
 use Rattle.tree_machine.specs.Graphs.{numbers_from}
-use Rattle.tree_machine.specs.Parts.{Part, Parts, no_part, IsPartsPairing, IsPartBelow, ArePartsInRange}
+use Rattle.tree_machine.specs.Parts.{Part, Parts, IsPartsPairing, IsPartBelow, ArePartsInRange}
 use Rattle.tree_machine.specs.Parts.{part_cell, parts_graph, parts_held, CanPartsBePaired}
 use Rattle.tree_machine.specs.Canonical.{nodes_met, records_met, front_order, front_nodes, front_records, as_cells}
 use Rattle.tree_machine.specs.Canonical.{order_behind, met_nodes, met_records, canonical_parts}
@@ -21,7 +20,7 @@ use Rattle.tree_machine.specs.Laws.CellLists.{numbers_all, order_front}
 use Rattle.tree_machine.specs.Laws.CellOrder.{Has, HasAll, RefsBelow, Extends, extends_more, has_extends}
 use Rattle.tree_machine.specs.Laws.CellOrder.{met_in_order, met_in_extends, order_closed}
 use Rattle.tree_machine.specs.Laws.CellPlaces.{place_from_has, get_place, has_at}
-use Rattle.tree_machine.specs.Laws.PartCells.{all_cells, part_all, length-parts_graph, length-cells, node_at}
+use Rattle.tree_machine.specs.Laws.PartCells.{all_cells, all_parts, part_all, length-parts_graph, length-cells, node_at}
 use Rattle.tree_machine.specs.Laws.PartCells.{record_at, held_at, cells_rooted, graph_rooted}
 use Rattle.tree_machine.specs.Laws.Graphs.{length-numbers_from}
 use Rattle.tree_machine.specs.Laws.MetLists.{number_at, places, nodes_below, records_below, nodes_first, records_first}
@@ -75,7 +74,7 @@ module _ (s : Parts) (order nodes records behind : List ℕ)
 met_distinct_in : {n : ℕ} (xs : List ℕ) → IsDistinct nat_eq xs → AllByRecursion (λ x. x < n) xs → AreDistinctIn 0 n xs
 met_distinct_in {n} xs distinct below = record {
   distinct = distinct;
-  within = λ k d l. (omega arith, All-from_recursion (λ x. x < n) xs below k d l);
+  within = λ k d l. omega (arith, All-from_recursion (λ x. x < n) xs below k d l);
 }
 
 module _ (fixed : ℕ) (s : Parts) (h : ArePartsInRange fixed s) where
@@ -151,11 +150,9 @@ module _ (fixed : ℕ) (s : Parts) (h : ArePartsInRange fixed s) where
         let more : length (all_cells s) ≡ m + held = length-append (parts_graph s) (parts_held s) in
         let below : AreDistinctIn 0 n nodes = met_distinct_in nodes met.nodes_distinct met.nodes_below in
         let raised = distinct_in_raised n _ records (met_distinct_in records met.records_distinct met.records_below) in
-        let graph =
-        distinct_in_join 0 n n _ nodes _ (omega arith) (omega arith) (omega arith) below raised in
+        let graph = distinct_in_join 0 n n _ nodes _ (omega arith) below raised in
         let roots =
-        distinct_in_join 0 _ m _ (as_cells n nodes records) _ (omega arith) (omega arith) (omega arith) graph
-        (distinct_in_row m held) in
+        distinct_in_join 0 _ m _ (as_cells n nodes records) _ (omega arith) graph (distinct_in_row m held) in
         cells_rooted fixed s h _ (λ k d l. omega (arith, roots.within k d l)) roots.distinct
 
     all_behind : Extends (roots_behind s nodes records) (order_behind nodes records s)
@@ -194,8 +191,7 @@ module _ (fixed : ℕ) (s : Parts) (h : ArePartsInRange fixed s) where
     held_met =
         let order = order_behind nodes records s in
         recursion_from_All _ s.held
-        (All-from_get_or (IsPartMet (nodes_of s order) (records_of s order)) s.held no_part (λ i l.
-        rw (← unwrap_or-slice_get s.held i no_part)
+        (all_parts (IsPartMet (nodes_of s order) (records_of s order)) s.held (λ i l.
         (part_met (roots_behind s nodes records) rooted_behind (length (parts_graph s) + i) _ (held_has i l)
         (held_at s i l) (part_all (IsPartBelow (length s.nodes) (length s.records)) s.held h.held i l))))
 

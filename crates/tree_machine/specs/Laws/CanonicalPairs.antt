@@ -73,10 +73,8 @@ module _ (P R : ℕ → ℕ → Type 0) (fixed : ℕ) (s t : Parts) (h : ArePart
       _ _ front.1)))
       (numbers_zip Q (length (parts_graph s)) (length (parts_graph t)) (length (parts_held s)) _ long
       (λ i x y l e f.
-      let here = length-parts_graph s in
-      let there = length-parts_graph t in
       let within : i < length s.held = rw length-map at l in
-      inr (omega arith, omega arith, inr (omega arith, omega arith, (omega arith, omega arith)))))
+      grind (arith, length-parts_graph s, length-parts_graph t)))
 
   -- and so is all that is met
   pub same_from_pairing : canonical_parts fixed s ≡ canonical_parts fixed t

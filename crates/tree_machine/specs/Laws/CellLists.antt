@@ -11,7 +11,8 @@ use Rattle.tree_machine.specs.Cells.{Content, IsRooted, content_at, met_all, vis
 use Rattle.tree_machine.specs.Graphs.{numbers_from}
 use Rattle.tree_machine.specs.Laws.CellOrder.{IsOrder, met_in_order, met_in_stable}
 use Rattle.tree_machine.specs.Laws.CellPlaces.{has_at}
-use Rattle.tree_machine.specs.Laws.CellSteps.{same_tests, is_other}
+use Rattle.std.proofs.lemmas.Bool.Decides.{nat_tests}
+use Rattle.tree_machine.specs.Laws.CellSteps.{same_tests}
 
 -- ---- lists end to end
 
@@ -31,11 +32,10 @@ zip_join P _ _ us vs z w = absurd z
 pub numbers_zip : (P : ℕ → ℕ → Type 0) (a b n m : ℕ) → n ≡ m
     → ((i x y : ℕ) → i < n → x ≡ a + i → y ≡ b + i → P x y) → AllZip P (numbers_from a n) (numbers_from b m)
 numbers_zip P a b zero zero many h = tt
-numbers_zip P a b (suc n) (suc m) many h = (
-  h 0 a b (omega arith) (omega arith) (omega arith),
-  numbers_zip P (suc a) (suc b) n m (omega arith)
-      (λ i x y l e f. h (suc i) x y (omega arith) (omega arith) (omega arith)),
-)
+numbers_zip P a b (suc n) (suc m) many h =
+    let rest = numbers_zip P (suc a) (suc b) n m (omega arith) (λ i x y l e f. h (suc i) x y (omega arith)
+    (omega arith) (omega arith)) in
+    (h 0 a b (omega arith) (omega arith) (omega arith), rest)
 numbers_zip P a b _ _ many h = absurd (omega arith)
 
 pub numbers_all : (P : ℕ → Type 0) (a n : ℕ) → ((x : ℕ) → a ≤ x → x < a + n → P x) → All P (numbers_from a n)
@@ -55,25 +55,24 @@ pub record AreDistinctIn (low high : ℕ) (xs : List ℕ) : Type 0 where
   pub within : All (λ x. (low ≤ x) × (x < high)) xs
 
 -- two such lists end to end
-pub distinct_in_join : (a b c d : ℕ) (xs ys : List ℕ) → a ≤ c → b ≤ c → b ≤ d → AreDistinctIn a b xs
+pub distinct_in_join : (a b c d : ℕ) (xs ys : List ℕ) → (a ≤ c) × (b ≤ c) × (b ≤ d) → AreDistinctIn a b xs
     → AreDistinctIn c d ys → AreDistinctIn a d (xs ++ ys)
 unfolding IsDistinct
-distinct_in_join a b c d xs ys low apart high h g = record {
+distinct_in_join a b c d xs ys rise h g = record {
   distinct = go xs h.distinct (λ k e l. (h.within k e l).1);
   within =
       All-append (λ x. (a ≤ x) × (x < d)) xs ys
-      (λ k e l. let r = h.within k e l in (r.0, omega arith)) (λ k e l. let r = g.within k e l in (omega arith, r.1));
+      (λ k e l. omega (arith, h.within k e l)) (λ k e l. omega (arith, g.within k e l));
 }
   where
     go : (xs : List ℕ) → IsDistinct nat_eq xs → All (λ x. x < b) xs → IsDistinct nat_eq (xs ++ ys)
     go [] distinct below = g.distinct
     go (x ∷ xs) distinct below =
-        let first = All-head (λ x. x < b) x xs below in (
-          recursion_from_All _ (xs ++ ys)
-              (All-append (λ y. nat_eq x y ≡ false) xs ys (All-from_recursion _ xs distinct.0)
-              (λ k e l. is_other x _ (λ same. omega (arith, same, g.within k e l)))),
-          go xs distinct.1 (All-tail (λ x. x < b) x xs below),
-        )
+        let first = All-head (λ x. x < b) x xs below in
+        let apart =
+        All-append (λ y. nat_eq x y ≡ false) xs ys (All-from_recursion _ xs distinct.0)
+        (λ k e l. let there = g.within k e l in grind (arith, nat_tests)) in
+        (recursion_from_All _ (xs ++ ys) apart, go xs distinct.1 (All-tail (λ x. x < b) x xs below))
 
 pub distinct_in_row : (a n : ℕ) → AreDistinctIn a (a + n) (numbers_from a n)
 unfolding IsDistinct
@@ -82,11 +81,9 @@ distinct_in_row a n =
   where
     go : (a n : ℕ) → IsDistinct nat_eq (numbers_from a n)
     go a zero = tt
-    go a (suc n) = (
-      recursion_from_All _ _
-          (numbers_all (λ x. nat_eq a x ≡ false) (suc a) n (λ x l k. is_other a x (λ e. omega arith))),
-      go (suc a) n,
-    )
+    go a (suc n) =
+        let apart = numbers_all (λ x. nat_eq a x ≡ false) (suc a) n (λ x l k. grind (arith, nat_tests)) in
+        (recursion_from_All _ _ apart, go (suc a) n)
 
 -- distinct numbers stay distinct under a map that is one to one among them
 pub mapped_distinct : (P : ℕ → Type 0) (f : ℕ → ℕ) → ((x y : ℕ) → P x → P y → f x ≡ f y → x ≡ y) → (xs : List ℕ)
@@ -107,8 +104,7 @@ distinct_in_raised n r xs h = record {
   distinct =
       mapped_distinct (λ x. (0 ≤ x) × (x < r)) (λ x. n + x) (λ x y _ _ e. omega (arith, e)) xs
       (recursion_from_All _ xs h.within) h.distinct;
-  within =
-      All-map (λ x. (n ≤ x) × (x < n + r)) _ xs (λ k d l. let p = h.within k d l in (omega arith, omega arith));
+  within = All-map (λ x. (n ≤ x) × (x < n + r)) _ xs (λ k d l. omega (arith, h.within k d l));
 }
 
 -- ---- a walk goes the same way where other cells come behind

@@ -1,18 +1,19 @@
 -- The cells that a walk meets, in their order: distinct, in range, and closed.
-use Rattle.std.proofs.Common.{◌≡◌, ℕ, zero, suc, ◌+◌, ◌<◌, ◌≤◌, true, List, [], ◌∷◌, ◌++◌, length, refl, sym, ap, subst}
+use Rattle.std.proofs.Common.{◌≡◌, ℕ, zero, suc, ◌+◌, ◌<◌, ◌≤◌, true, List, [], ◌∷◌, ◌++◌, length, refl, sym, ap}
 use Rattle.std.proofs.Common.{inl, inr, arith, append_assoc, add-suc, add-zero, get_or, append-nil}
 use Rattle.std.specs.Prelude.{slice_get, Option, Some, None, nat_eq, ⊤, IfSome}
 use Rattle.std.specs.Cmp.{IsEquivalence}
 use Rattle.std.specs.List.{list_any, All, AllByRecursion, IsDistinct}
-use Rattle.std.proofs.lemmas.Bool.{cases_eq, cases_lt, cond_both, eq-eqb, eqb-true, or_cases}
+use Rattle.std.proofs.lemmas.Bool.{cases_eq, cases_lt, cond_both, eq-eqb}
+use Rattle.std.proofs.lemmas.Bool.Decides.{nat_tests}
+use Rattle.std.proofs.lemmas.Cmp.{nat_eq_equiv}
 use Rattle.std.proofs.lemmas.List.Elements.{recursion_from_All, All-get_or}
 use Rattle.std.proofs.lemmas.List.Folds.{list_any-append}
 use Rattle.std.proofs.lemmas.Map.Keys.{IsDistinct-push}
 use Rattle.std.proofs.lemmas.Map.Steps.{length-le_from_distinct_below}
 use Rattle.std.proofs.lemmas.Option.{slice_get_past, slice_get_within, slice_get-get_or, unwrap_or-slice_get}
-use Rattle.std.proofs.Math.Bool.{or-false, or-true}
+use Rattle.std.proofs.Math.Bool.{or-true}
 use Rattle.tree_machine.specs.Cells.{Content, met, met_all, visited, met_in, content_at, order_of, IsRooted}
-use Rattle.tree_machine.specs.Laws.CellSteps.{same_tests}
 
 -- x is in xs
 abbrev pub Has : List ℕ → ℕ → Type 0
@@ -39,11 +40,7 @@ pub has_itself : (x : ℕ) → nat_eq x x ≡ true
 has_itself x = eq-eqb x x refl
 
 pub nat_equivalence : IsEquivalence nat_eq
-nat_equivalence = record {
-  refl = has_itself;
-  symm = λ x y. same_tests x y y x (λ e. sym e, λ e. sym e);
-  congr = λ x y z h. ap (λ w. nat_eq w z) (eqb-true x y h);
-}
+nat_equivalence = nat_eq_equiv
 
 pub has_extends : {xs ys : List ℕ} → Extends xs ys → (x : ℕ) → Has xs x → Has ys x
 has_extends e x h = rw (e.is, list_any-append, h) refl
@@ -71,7 +68,7 @@ met_extends order x =
 pub met_has : (order : List ℕ) (x : ℕ) → Has (met order x) x
 met_has order x =
     cond_both (list_any (nat_eq x) order) order (order ++ x ∷ []) (λ o. Has o x)
-    (λ h. h) (λ h. rw (list_any-append, has_itself x) (or-true _))
+    (λ h. h) (λ h. simp (list_any-append, has_itself x, or-true))
 
 pub met_all_extends : (refs : List (Option ℕ)) (order : List ℕ) → Extends order (met_all order refs)
 met_all_extends [] order = extends_itself order
@@ -94,10 +91,7 @@ pub met_order : (n : ℕ) (order : List ℕ) (x : ℕ) → x < n → IsOrder n o
 met_order n order x l h =
     cond_both (list_any (nat_eq x) order) order _ (IsOrder n) (λ _. h) (λ e. record {
       distinct = IsDistinct-push nat_equivalence order x h.distinct e;
-      below = λ y g. elim (or_cases (list_any (nat_eq y) order) (nat_eq y x) (rw (list_any-append, or-false) at g)) [
-        | inl m ↦ h.below y m
-        | inr m ↦ rw (eqb-true y x m) l
-      ];
+      below = λ y g. let had = h.below y in grind (arith, nat_tests, had, list_any-append (nat_eq y) order (x ∷ []));
     })
 
 -- each ref is none or below n
@@ -118,17 +112,13 @@ length-order n order h = length-le_from_distinct_below order n h.distinct h.belo
 -- what holds of each element holds of one that is there
 pub all_has : (P : ℕ → Type 0) (xs : List ℕ) → AllByRecursion P xs → (x : ℕ) → Has xs x → P x
 all_has P [] h x g = cc
-all_has P (y ∷ xs) h x g =
-    elim (or_cases (nat_eq x y) (list_any (nat_eq x) xs) g) [
-      | inl e ↦ subst P (sym (eqb-true x y e)) h.0
-      | inr e ↦ all_has P xs h.1 x e
-    ]
+all_has P (y ∷ xs) h x g = grind (arith, nat_tests, h.0, all_has P xs h.1 x)
 
 -- what holds of each one that is there holds of each element
 pub all_from_has : (P : ℕ → Type 0) (xs : List ℕ) → ((x : ℕ) → Has xs x → P x) → AllByRecursion P xs
 all_from_has P [] h = tt
 all_from_has P (x ∷ xs) h =
-    (h x (rw (has_itself x) refl), all_from_has P xs (λ y g. h y (rw g (or-true (nat_eq y x)))))
+    (h x (rw (has_itself x) refl), all_from_has P xs (λ y g. h y (grind (arith, nat_tests))))
 
 module _ (cells : List Content) (roots : List ℕ) (h : IsRooted cells roots) where
   refs_below : (x : ℕ) → RefsBelow (length cells) (content_at cells x).refs

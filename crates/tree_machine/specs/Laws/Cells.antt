@@ -1,5 +1,5 @@
 -- Canonical forms are equal exactly where the cells can be paired.
-use Rattle.std.proofs.Common.{◌≡◌, ℕ, zero, suc, ◌+◌, ◌↔◌, List, [], ◌∷◌, map, length, refl, sym, ◌∙◌, ap, subst}
+use Rattle.std.proofs.Common.{◌≡◌, ℕ, zero, suc, ◌+◌, ◌↔◌, List, [], ◌∷◌, map, length, refl, sym, ◌∙◌, ap}
 use Rattle.std.proofs.Common.{arith, add_comm}
 use Rattle.std.specs.Prelude.{slice_get, Option, Some, None}
 use Rattle.std.specs.List.{AllZip, zip}
@@ -25,11 +25,12 @@ module _ (P : ℕ → ℕ → Type 0) (cells others : List Content) (roots targe
     (aimed : IsRooted others targets) (h : IsPairing P cells roots others targets) where
   pub orders_paired : AllZip P (order_of cells roots) (order_of others targets)
   orders_paired =
-      subst (λ xs. AllZip P xs (order_of others targets)) (met_in_stable cells roots rooted (length others))
-      (subst (λ ys. AllZip P (met_in cells roots (length cells + length others)) ys)
-      (ap (met_in others targets) (add_comm (length cells) (length others))
-      ∙ met_in_stable others targets aimed (length cells))
-      (met_in_paired P cells others roots targets h (length cells + length others)))
+      let m = length cells + length others in
+      rw (
+        met_in_stable cells roots rooted (length others),
+        ap (met_in others targets) (add_comm (length cells) (length others)),
+        met_in_stable others targets aimed (length cells),
+      ) at (met_in_paired P cells others roots targets h m)
 
   pub equal_from_pairing : canonical cells roots ≡ canonical others targets
   equal_from_pairing =

@@ -70,7 +70,7 @@ graph_split ns rs ms ss xs ys e =
     (both.0, both.1, split.1)
 
 graph_is_some : (ns rs : List Part) → [] ≡ graph_code ns rs → ⊥
-graph_is_some ns rs e = let long = simp length-append at (ap length e) in omega (arith, long)
+graph_is_some ns rs e = omega (arith, simp length-append at (ap length e))
 
 left_tells : (ns rs ms ss : List Part) → left_code ns rs ≡ left_code ms ss → (ns ≡ ms) × (rs ≡ ss)
 left_tells [] [] [] [] e = (refl, refl)

@@ -90,14 +90,12 @@ module _ {Machine Memory Place Form : Type 0} (rules : Rules Memory Place)
         thread_at in
         let twin = w.0 in
         let twin_fits = fits.threads t ops twin ops_at w.1 in
-        let same : thread.replies ≡ twin.replies = w.2 in
-        let alike : thread.notes ≡ twin.notes = w.3 in
         let held : is_some thread.place ≡ is_some twin.place =
         sym (held_are_some (rules.pairs.places decoded.2.0) twin.place thread.place w.4) in
         record {
-          begun = rw alike twin_fits.begun;
-          notes = rw alike twin_fits.notes;
-          replies = cc (same, held, alike, twin_fits.replies);
+          begun = rw w.3 twin_fits.begun;
+          notes = rw w.3 twin_fits.notes;
+          replies = cc (w.2, held, w.3, twin_fits.replies);
           place =
               let is =
               slice_get-map (λ (x : Thread Place). x.place) c.threads t ∙ ap (option_map (λ x. x.place)) thread_at in

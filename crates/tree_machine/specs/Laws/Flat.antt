@@ -1,6 +1,6 @@
 -- Bytes determine the numbers and the facts that they begin with.
 use Rattle.std.proofs.Common.{◌≡◌, ℕ, zero, suc, ◌+◌, ◌*◌, ◌/◌, ◌%◌, ◌<◌, ◌⊎◌, List, []}
-use Rattle.std.proofs.Common.{◌∷◌, ◌++◌, length, replicate, refl, ap, inl, inr, arith, append_assoc}
+use Rattle.std.proofs.Common.{◌∷◌, ◌++◌, length, replicate, refl, inl, inr, arith, append_assoc}
 use Rattle.std.specs.Prelude.{nat_lt, ◌&&◌}
 use Rattle.std.specs.List.{flat_map}
 use Rattle.std.proofs.lemmas.Bool.{and_parts, cases_Bool, ltb-true}
@@ -12,12 +12,9 @@ use Rattle.tree_machine.specs.Flat.{number_code, long_code, facts_code}
 digits_split : (k l r s : ℕ) (xs ys : List ℕ) → r < 255 → s < 255
     → replicate k 255 ++ r ∷ xs ≡ replicate l 255 ++ s ∷ ys → (k ≡ l) × (r ≡ s) × (xs ≡ ys)
 digits_split zero zero r s xs ys h g e = (refl, cc, cc)
-digits_split zero (suc l) r s xs ys h g e = let same : r ≡ 255 = cc in absurd (omega arith)
-digits_split (suc k) zero r s xs ys h g e = let same : 255 ≡ s = cc in absurd (omega arith)
-digits_split (suc k) (suc l) r s xs ys h g e =
-    let rest : replicate k 255 ++ r ∷ xs ≡ replicate l 255 ++ s ∷ ys = cc in
-    let split = digits_split k l r s xs ys h g rest in
-    (ap suc split.0, split.1, split.2)
+digits_split zero (suc l) r s xs ys h g e = grind arith
+digits_split (suc k) zero r s xs ys h g e = grind arith
+digits_split (suc k) (suc l) r s xs ys h g e = grind (arith, digits_split k l r s xs ys h g)
 
 -- a number in bytes in front of others, end to end
 pub number_read : (n m : ℕ) (xs ys : List ℕ) → replicate (n / 255) 255 ++ (n % 255) ∷ xs
@@ -79,14 +76,8 @@ facts_split fs gs r s xs ys e = go (short_or_long fs r) (short_or_long gs s)
         let first : a ≡ b = omega arith in
         let facts = each_readable number_code number_split ms ns xs ys (omega arith) behind in
         (cc (f, g, first, facts.0), refs, facts.1)
-    go (inl p) (inr q) =
-        let heads = rw (p.6, q) at e in
-        let head : length p.1 + 5 * p.0 + 30 * r ≡ 255 = cc heads in
-        absurd (omega (arith, p.3, p.4, p.5, head))
-    go (inr p) (inl q) =
-        let heads = rw (p, q.6) at e in
-        let head : 255 ≡ length q.1 + 5 * q.0 + 30 * s = cc heads in
-        absurd (omega (arith, q.3, q.4, q.5, head))
+    go (inl p) (inr q) = let heads = rw (p.6, q) at e in grind arith
+    go (inr p) (inl q) = let heads = rw (p, q.6) at e in grind arith
     go (inr p) (inr q) =
         let bytes = simp append_assoc at (rw (p, q) at e) in
         let lengths = number_read (length fs) (length gs) _ _ (cc bytes) in

@@ -1,9 +1,9 @@
 -- The content of the form of a state can be read off its bytes, so that two forms are equal where their bytes are.
-use Rattle.std.specs.Prelude.{◌≡◌, ℕ, ◌/◌, ◌%◌, Bool, true, false, if◌then◌else◌, List, [], ◌∷◌, ◌++◌, length, Option}
+use Rattle.std.specs.Prelude.{◌≡◌, ℕ, Bool, List, [], ◌∷◌, ◌++◌, length, Option}
 use Rattle.std.specs.Prelude.{Some, None, nat_eq}
 use Rattle.std.specs.Cmp.{IsEquivalence}
 use Rattle.std.specs.Cmp.Lexicographic.{pointwise}
-use Rattle.std.proofs.Common.{◌+◌, refl, sym, ◌∙◌, ap, subst, arith, append_assoc, get_or}
+use Rattle.std.proofs.Common.{◌+◌, refl, sym, ◌∙◌, ap, arith, append_assoc}
 use Rattle.std.proofs.lemmas.Cmp.{lists_equiv}
 use Rattle.sched_program.specs.Exact.{IsExact}
 use Rattle.sched_program.specs.Laws.Exact.{nat_exact, list_exact}
@@ -15,7 +15,7 @@ use Rattle.tree_machine.specs.Laws.Flat.{number_split, IsReadable, each_readable
 use Rattle.tree_machine.specs.Laws.Packed.{digits_of_number}
 use Rattle.tree_machine.specs.Laws.ShortNotes.{counts_of_number, number_below}
 use Rattle.tree_machine.specs.declared.state.State.{State}
-use Rattle.tree_machine.specs.Packed.{digits_of, is_short, note_number, replies_number}
+use Rattle.tree_machine.specs.Packed.{digits_of, replies_number}
 
 -- what the bytes of a state are of, behind its steps
 abbrev pub state_content : {Machine Memory Place Form : Type 0} → (Memory → List (Option Place) → List ℕ)
@@ -50,27 +50,13 @@ halves _ _ ys vs l e = absurd (omega arith)
 -- a short note and one that is not begin with different bytes
 note_readable : IsReadable note_code
 unfolding note_code
-note_readable cs ds xs ys e = go (is_short cs) (is_short ds) refl refl e
-  where
-    code : Bool → List ℕ → List ℕ
-    code short counts =
-        if short then note_number counts / 256 ∷ note_number counts % 256 ∷ [] else 255 ∷ length counts ∷ counts
-
-    go : (short other : Bool) → is_short cs ≡ short → is_short ds ≡ other
-        → code short cs ++ xs ≡ code other ds ++ ys → (cs ≡ ds) × (xs ≡ ys)
-    go true true c d e =
-        let high : note_number cs / 256 ≡ note_number ds / 256 = cc in
-        let low : note_number cs % 256 ≡ note_number ds % 256 = cc in
-        let number : note_number cs ≡ note_number ds = omega arith in
-        (cc (counts_of_number cs c, counts_of_number ds d, number), cc)
-    go true false c d e = let high : note_number cs / 256 ≡ 255 = cc in absurd (omega (arith, number_below cs c))
-    go false true c d e = let high : 255 ≡ note_number ds / 256 = cc in absurd (omega (arith, number_below ds d))
-    go false false c d e = halves cs ds xs ys (cc) (cc)
+note_readable cs ds xs ys e =
+    grind (arith, counts_of_number cs, counts_of_number ds, number_below cs, number_below ds, halves cs ds xs ys)
 
 astray_readable : IsReadable astray_code
-astray_readable None None xs ys e = (refl, cc)
-astray_readable (Some t) (Some u) xs ys e = (cc, cc)
-astray_readable _ _ xs ys e = absurd (omega (arith, ap (λ l. get_or l 0 0) e))
+astray_readable None None xs ys e = grind arith
+astray_readable (Some t) (Some u) xs ys e = grind arith
+astray_readable _ _ xs ys e = grind arith
 
 module _ {Form : Type 0} (code : Form → List ℕ) (readable : IsInjective code) where
   pub content_readable : IsInjective (content_code code)
@@ -92,7 +78,5 @@ module _ {Form : Type 0} (code : Form → List ℕ) (readable : IsInjective code
       → (a b : FormContent Form) → pointwise nat_eq (content_code code a) (content_code code b) ≡ E a b
   content_same E exact equivalence a b =
       same_answer _ _
-      (λ h. subst (λ (c : FormContent Form). E a c ≡ true) (content_readable a b (list_exact nat_exact _ _ h))
-      (equivalence.refl a))
-      (λ h. subst (λ (c : FormContent Form). pointwise nat_eq (content_code code a) (content_code code c) ≡ true)
-      (exact a b h) ((lists_equiv nat_equivalence).refl (content_code code a)))
+      (λ h. rw (content_readable a b (list_exact nat_exact _ _ h)) (equivalence.refl b))
+      (λ h. rw (exact a b h) ((lists_equiv nat_equivalence).refl (content_code code b)))

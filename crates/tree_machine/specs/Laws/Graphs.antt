@@ -1,5 +1,5 @@
 -- Numbers in a row.
-use Rattle.std.proofs.Common.{◌≡◌, ℕ, zero, suc, ◌+◌, [], ◌∷◌, ◌++◌, length, refl, sym, ◌∙◌, ap, arith}
+use Rattle.std.proofs.Common.{◌≡◌, ℕ, zero, suc, ◌+◌, [], ◌∷◌, ◌++◌, length, refl, ap, arith}
 use Rattle.std.proofs.Common.{add-zero, add-one}
 use Rattle.tree_machine.specs.Graphs.{numbers_from}
 
@@ -9,9 +9,8 @@ length-numbers_from a (suc n) = ap suc (length-numbers_from (suc a) n)
 
 -- one more number
 pub numbers_more : (a n : ℕ) → numbers_from a (n + 1) ≡ numbers_from a n ++ (a + n) ∷ []
-numbers_more a n = ap (numbers_from a) (add-one n) ∙ go a n
+numbers_more a n = rw add-one (go a n)
   where
     go : (a n : ℕ) → numbers_from a (suc n) ≡ numbers_from a n ++ (a + n) ∷ []
-    go a zero = ap (λ x. x ∷ []) (sym (add-zero a))
-    go a (suc n) = let e : suc a + n ≡ a + suc n = omega arith in
-        ap (λ l. a ∷ l) (go (suc a) n ∙ ap (λ x. numbers_from (suc a) n ++ x ∷ []) e)
+    go a zero = rw add-zero
+    go a (suc n) = let e : suc a + n ≡ a + suc n = omega arith in cc (e, go (suc a) n)

@@ -117,17 +117,15 @@ module _ (before after : ℕ → Option Shape) (key : ℕ) (end : End) (put : Is
     descend (suc n) low high parent x m l r e o from under ends =
         let a = apart before (suc n) low (min m high) l o.0 in
         let b = apart before (suc n) (max m low) high r o.1 in
-        let inside : (low < m) × (m < high) = (omega arith, omega arith) in
+        let inside : (low < m) × (m < high) = omega arith in
         let on = sym (end_below before key (suc n) parent x m l r e) ∙ ends in
         elim (leb_tells (suc key) m) [
           | inl t ↦ grown_by n low high x m low (min m high) l (λ c. c) (λ c. r) (descend n) e
-              (omega arith, omega arith, omega arith, omega arith, omega arith, omega arith) (λ u v. omega arith)
-              from (omega arith) (λ here. put.left m l r here t.1)
+              (omega arith) (λ u v. omega arith) from (omega arith) (λ here. put.left m l r here t.1)
               (λ kp lp rp c is u v oc. (oc, frame kp lp rp is (suc n) (max m low) high r (λ p q. omega arith) o.1))
               (before l) refl o.0 (rw t.0 at on)
           | inr t ↦ grown_by n low high x m (max m low) high r (λ c. l) (λ c. c) (descend n) e
-              (omega arith, omega arith, omega arith, omega arith, omega arith, omega arith) (λ u v. omega arith)
-              (omega arith) under (λ here. put.right m l r here (omega arith))
+              (omega arith) (λ u v. omega arith) (omega arith) under (λ here. put.right m l r here (omega arith))
               (λ kp lp rp c is u v oc. (frame kp lp rp is (suc n) low (min m high) l (λ p q. omega arith) o.0, oc))
               (before r) refl o.1 (rw t.0 at on)
         ]

@@ -1,6 +1,6 @@
 -- Lists of the nodes and of the records that are met: distinct, in range, and paired where the orders are.
-use Rattle.std.proofs.Common.{◌≡◌, ◌≢◌, ℕ, zero, suc, ◌+◌, ◌-◌, ◌<◌, ◌≤◌, ◌⊎◌, inl, inr, Bool, true, false, ◌||◌, ◌&&◌}
-use Rattle.std.proofs.Common.{List, [], ◌∷◌, ◌++◌, map, length, refl, sym, ◌∙◌, ap, ap₂, arith, append-nil, zero-add}
+use Rattle.std.proofs.Common.{◌≡◌, ◌≢◌, ℕ, zero, suc, ◌+◌, ◌-◌, ◌<◌, ◌≤◌, ◌⊎◌, Bool, true, false, ◌&&◌}
+use Rattle.std.proofs.Common.{List, [], ◌∷◌, ◌++◌, map, length, refl, sym, ◌∙◌, ap, arith, append-nil, zero-add}
 use Rattle.std.specs.Prelude.{slice_get, Option, Some, None, nat_eq, nat_lt, nat_le}
 use Rattle.std.specs.List.{AllZip, AllByRecursion, filter, list_any, zip, IsDistinct}
 use Rattle.std.specs.Option.{option_and_then}
@@ -12,14 +12,12 @@ use Rattle.std.proofs.lemmas.List.{map-append}
 use Rattle.std.proofs.lemmas.Map.Made.{AllPairs-from_IsDistinct, IsDistinct-from_AllPairs}
 use Rattle.std.proofs.lemmas.Map.Views.{any-filter_same}
 use Rattle.std.proofs.lemmas.Option.{slice_get_within}
-use Rattle.sched_program.specs.Laws.Exact.{both}
 use Rattle.tree_machine.specs.Cells.{IsPairedOrNone, place_in}
 use Rattle.tree_machine.specs.Pairing.{IsOneToOne, IsAmong}
 use Rattle.tree_machine.specs.Graphs.{numbers_from}
 use Rattle.tree_machine.specs.Canonical.{nodes_met, records_met, as_cells}
 use Rattle.tree_machine.specs.Laws.CellLists.{mapped_distinct, distinct_in_row}
 use Rattle.tree_machine.specs.Laws.CellOrder.{Has, HasAll, all_from_has}
-use Rattle.tree_machine.specs.Laws.CellSteps.{same_tests}
 use Rattle.tree_machine.specs.Laws.CellPlaces.{among_at, at_among, place_from_has, get_place, zip_one}
 
 -- ---- each number with its place
@@ -72,10 +70,10 @@ filter_any : (p : ℕ → Bool) (xs : List ℕ) (x : ℕ)
 filter_any p xs x = any-filter_same (nat_eq x) p (p x) (λ y e. ap p (sym (eqb-true x y e))) xs
 
 pub filter_has : (p : ℕ → Bool) (xs : List ℕ) (x : ℕ) → Has (filter p xs) x → Has xs x × (p x ≡ true)
-filter_has p xs x h = let r = both (p x) (list_any (nat_eq x) xs) (sym (filter_any p xs x) ∙ h) in (r.1, r.0)
+filter_has p xs x h = grind (arith, filter_any p xs x)
 
 pub has_filter : (p : ℕ → Bool) (xs : List ℕ) (x : ℕ) → Has xs x → p x ≡ true → Has (filter p xs) x
-has_filter p xs x h t = filter_any p xs x ∙ ap₂ ◌&&◌ t h
+has_filter p xs x h t = cc (filter_any p xs x, h, t)
 
 pub filter_none : (p : ℕ → Bool) (xs : List ℕ) → AllByRecursion (λ x. p x ≡ false) xs → filter p xs ≡ []
 filter_none p [] h = refl
@@ -88,9 +86,7 @@ PassAlike p q R x y = ((p x ≡ true) × (q y ≡ true) × R x y) ⊎ ((p x ≡ 
 pub filter_zip : (Q R : ℕ → ℕ → Type 0) (p q : ℕ → Bool) → ((x y : ℕ) → Q x y → PassAlike p q R x y)
     → (xs ys : List ℕ) → AllZip Q xs ys → AllZip R (filter p xs) (filter q ys)
 filter_zip Q R p q h [] [] z = tt
-filter_zip Q R p q h (x ∷ xs) (y ∷ ys) z =
-    let rest = filter_zip Q R p q h xs ys z.1 in
-    elim (h x y z.0) [ inl k ↦ rw (k.0, k.1) (k.2, rest) | inr k ↦ rw (k.0, k.1) rest ]
+filter_zip Q R p q h (x ∷ xs) (y ∷ ys) z = grind (arith, h x y z.0, filter_zip Q R p q h xs ys z.1)
 filter_zip Q R p q h _ _ z = absurd z
 
 pub map_zip : {A B C D : Type 0} (P : C → D → Type 0) (f : A → C) (g : B → D) (xs : List A) (ys : List B)
@@ -128,8 +124,7 @@ test_behind n r x l = grind (arith, nat_tests)
 lowered_any : (n : ℕ) (xs : List ℕ) (y : ℕ) → AllByRecursion (λ x. n ≤ x) xs
     → list_any (nat_eq y) (map (λ x. x - n) xs) ≡ list_any (nat_eq (n + y)) xs
 lowered_any n [] y a = refl
-lowered_any n (x ∷ xs) y a = λ i. same_tests y (n + y) (x - n) x
-    ((λ e. omega (arith, e, a.0)), (λ e. omega (arith, e))) i || lowered_any n xs y a.1 i
+lowered_any n (x ∷ xs) y a = grind (arith, nat_tests, lowered_any n xs y a.1, a.0)
 
 -- ---- the nodes and the records that are met
 
@@ -153,8 +148,7 @@ module _ (n : ℕ) (order : List ℕ) where
     pub record_has : (y : ℕ) → Has (records_met n r order) y → Has order (n + y) × (y < r)
     record_has y h =
         let k = filter_has (is_record n r) order (n + y) (sym (lowered_any n _ y kept_behind) ∙ h) in
-        let l = record_test n r (n + y) k.1 in
-        (k.0, omega arith)
+        (k.0, omega (arith, record_test n r (n + y) k.1))
 
     pub has_record : (y : ℕ) → Has order (n + y) → y < r → Has (records_met n r order) y
     has_record y h l =
@@ -175,7 +169,7 @@ module _ (n : ℕ) (order : List ℕ) where
 module _ (n r : ℕ) where
   nodes_of_nodes : (xs : List ℕ) → AllByRecursion (λ x. x < n) xs → nodes_met n xs ≡ xs
   nodes_of_nodes [] h = refl
-  nodes_of_nodes (x ∷ xs) h = rw (test_node n x h.0, nodes_of_nodes xs h.1) refl
+  nodes_of_nodes (x ∷ xs) h = grind (arith, nat_tests, nodes_of_nodes xs h.1, h.0)
 
   nodes_of_records : (ys : List ℕ) → nodes_met n (map (λ y. n + y) ys) ≡ []
   nodes_of_records [] = refl
@@ -187,10 +181,7 @@ module _ (n r : ℕ) where
 
   records_of_records : (ys : List ℕ) → AllByRecursion (λ y. y < r) ys → records_met n r (map (λ y. n + y) ys) ≡ ys
   records_of_records [] h = refl
-  records_of_records (y ∷ ys) h =
-      let l : y < r = h.0 in
-      let first : n + y - n ≡ y = omega arith in
-      rw (test_record n r (n + y) (omega arith) (omega arith)) (cc (first, records_of_records ys h.1))
+  records_of_records (y ∷ ys) h = grind (arith, nat_tests, records_of_records ys h.1, h.0)
 
   -- in front of other cells
   pub nodes_first : (nodes records zs : List ℕ) → AllByRecursion (λ x. x < n) nodes

@@ -5,7 +5,8 @@ use Rattle.std.specs.Prelude.{Option, Some, None, IfSome, nat_eq}
 use Rattle.std.specs.List.{AllZip, All, IsDistinct}
 use Rattle.std.specs.Option.{option_map}
 use Rattle.std.proofs.lemmas.List.{length-map}
-use Rattle.std.proofs.lemmas.List.Elements.{All-append, All-get_or, All-map, All-weaker, AllZip-get_or, length_all_zip}
+use Rattle.std.proofs.lemmas.List.Elements.{All-append, All-from_get_or, All-get_or, All-map, All-weaker}
+use Rattle.std.proofs.lemmas.List.Elements.{AllZip-get_or, length_all_zip}
 use Rattle.std.proofs.lemmas.Option.{IfSome_then, slice_get-get_or, slice_get-map, unwrap_or-slice_get}
 use Rattle.tree_machine.specs.Cells.{Content, content_at, IsPairedOrNone, IsPairing, IsRooted}
 use Rattle.tree_machine.specs.Pairing.{IsOneToOne}
@@ -24,6 +25,12 @@ content_map f parts x l = rw (slice_get-map, slice_get-get_or parts x no_part l)
 -- what holds of all parts holds of part x
 pub part_all : (P : Part → Type 0) (parts : List Part) → All P parts → (x : ℕ) → x < length parts → P (part_at parts x)
 part_all P parts h x l = rw unwrap_or-slice_get (All-get_or P parts x no_part l h)
+
+-- and what holds of each part x holds of all parts
+pub all_parts : (P : Part → Type 0) (parts : List Part) → ((x : ℕ) → x < length parts → P (part_at parts x))
+    → All P parts
+all_parts P parts f =
+    All-from_get_or P parts no_part (λ x l. rw (← unwrap_or-slice_get parts x no_part) (f x l))
 
 pub length-parts_graph : (s : Parts) → length (parts_graph s) ≡ length s.nodes + length s.records
 length-parts_graph s = simp (length-append, length-map)
@@ -153,9 +160,7 @@ BelowOrBehind n m P Q x y = ((x < n) × (y < m) × P x y) ⊎ ((n ≤ x) × (m �
 below_or_behind_one : (n m : ℕ) (P Q : ℕ → ℕ → Type 0) → IsOneToOne P → IsOneToOne Q
     → IsOneToOne (BelowOrBehind n m P Q)
 below_or_behind_one n m P Q one then x y v w (inl p) (inl q) = one x y v w p.2 q.2
-below_or_behind_one n m P Q one then x y v w (inr p) (inr q) =
-    let both = then _ _ _ _ p.2 q.2 in
-    (λ e. omega (arith, both.0 (omega arith)), λ e. omega (arith, both.1 (omega arith)))
+below_or_behind_one n m P Q one then x y v w (inr p) (inr q) = grind (arith, then _ _ _ _ p.2 q.2)
 below_or_behind_one n m P Q one then x y v w (inl p) (inr q) = (λ e. omega arith, λ e. omega arith)
 below_or_behind_one n m P Q one then x y v w (inr p) (inl q) = (λ e. omega arith, λ e. omega arith)
 
@@ -179,20 +184,15 @@ module _ (P R : ℕ → ℕ → Type 0) (s t : Parts) where
 
     paired_range : (x y : ℕ) → Paired x y
         → (x < length (parts_graph s ++ parts_held s)) × (y < length (parts_graph t ++ parts_held t))
-    paired_range x y (inl p) = (omega (arith, length-cells s), omega (arith, length-cells t))
-    paired_range x y (inr (l, k, inl p)) = (omega (arith, length-cells s), omega (arith, length-cells t))
-    paired_range x y (inr (l, k, inr p)) =
-        let many = held_long in (omega (arith, length-cells s), omega (arith, length-cells t))
+    paired_range x y (inl p) = omega (arith, length-cells s, length-cells t)
+    paired_range x y (inr (l, k, inl p)) = omega (arith, length-cells s, length-cells t)
+    paired_range x y (inr (l, k, inr p)) = omega (arith, length-cells s, length-cells t, held_long)
 
     pub paired_node : (x y : ℕ) → P x y → Paired x y
     paired_node x y p = let r = h.nodes_in_range x y p in inl (r.0, r.1, p)
 
     pub paired_record : (x y : ℕ) → R x y → Paired (length s.nodes + x) (length t.nodes + y)
-    paired_record x y p =
-        let r = h.records_in_range x y p in
-        let e : length s.nodes + x - length s.nodes ≡ x = omega arith in
-        let f : length t.nodes + y - length t.nodes ≡ y = omega arith in
-        inr (omega arith, omega arith, rw (e, f) (inl (r.0, r.1, p)))
+    paired_record x y p = inr (omega arith, omega arith, grind (arith, h.records_in_range x y p, p))
 
     cells_paired : (a b : Part) → ArePartsPaired P R a b
         → AreCellsPaired Paired (part_cell (length s.nodes) a) (part_cell (length t.nodes) b)

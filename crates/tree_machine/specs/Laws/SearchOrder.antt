@@ -1,21 +1,19 @@
 -- Laws of search order.
 use Rattle.std.specs.Prelude.{◌≡◌, ℕ, zero, suc, ◌+◌, ◌<◌, ◌≤◌, min, max, nat_lt, if◌then◌else◌, refl, Option, Some}
 use Rattle.std.specs.Prelude.{None}
-use Rattle.std.proofs.Common.{◌↔◌, arith, sym, ap, subst}
+use Rattle.std.proofs.Common.{◌↔◌, arith}
 use Rattle.tree_machine.specs.declared.search_order.Shape.{Shape}
 use Rattle.tree_machine.specs.declared.search_order.Shape.TheVariants.{Leaf, Internal}
-use Rattle.tree_machine.specs.SearchOrder.{IsNodeOrdered, IsOrderedWithin, IsOrdered, went_down, end_of}
+use Rattle.tree_machine.specs.SearchOrder.{IsNodeOrdered, IsOrderedWithin, IsOrdered, end_of}
 
 module _ (shapes : ℕ → Option Shape) where
   apart_node : (levels : ℕ) → ((low high x : ℕ) → IsOrderedWithin shapes levels low high x → low < high)
       → (low high : ℕ) (shape : Option Shape) → IsNodeOrdered (IsOrderedWithin shapes levels) low high shape
       → low < high
   apart_node levels f low high None o = absurd o
-  apart_node levels f low high (Some (Leaf k)) o = let a = o.0 in let b = o.1 in omega arith
+  apart_node levels f low high (Some (Leaf k)) o = omega arith
   apart_node levels f low high (Some (Internal m l r)) o =
-      let a = f low (min m high) l o.0 in
-      let b = f (max m low) high r o.1 in
-      omega arith
+      omega (arith, f low (min m high) l o.0, f (max m low) high r o.1)
 
   -- what is in order has a key between its bounds
   pub apart : (levels low high x : ℕ) → IsOrderedWithin shapes levels low high x → low < high
@@ -39,11 +37,11 @@ module _ (shapes : ℕ → Option Shape) where
 
   pub of_node : (levels low high x : ℕ) (shape : Option Shape) → shapes x ≡ shape
       → IsNodeOrdered (IsOrderedWithin shapes levels) low high shape → IsOrderedWithin shapes (suc levels) low high x
-  of_node levels low high x shape e o = subst (IsNodeOrdered (IsOrderedWithin shapes levels) low high) (sym e) o
+  of_node levels low high x shape e o = rw e o
 
   pub to_node : (levels low high x : ℕ) (shape : Option Shape) → shapes x ≡ shape
       → IsOrderedWithin shapes (suc levels) low high x → IsNodeOrdered (IsOrderedWithin shapes levels) low high shape
-  to_node levels low high x shape e o = subst (IsNodeOrdered (IsOrderedWithin shapes levels) low high) e o
+  to_node levels low high x shape e o = rw e at o
 
   below : (levels low high x : ℕ) (shape : Option Shape) → shapes x ≡ shape → IsOrderedWithin shapes levels low high x
       → (fewer : ℕ) × IsNodeOrdered (IsOrderedWithin shapes fewer) low high shape
@@ -88,17 +86,14 @@ module _ (shapes : ℕ → Option Shape) where
   pub end_at_none : (k levels parent x : ℕ) → shapes x ≡ None
       → end_of shapes k levels parent x ≡ record { parent = parent; leaf = x }
   end_at_none k zero parent x e = refl
-  end_at_none k (suc levels) parent x e =
-      ap (went_down k (end_of shapes k levels x) (record { parent = parent; leaf = x })) e
+  end_at_none k (suc levels) parent x e = rw e
 
   pub end_at_leaf : (k levels parent x j : ℕ) → shapes x ≡ Some (Leaf j)
       → end_of shapes k levels parent x ≡ record { parent = parent; leaf = x }
   end_at_leaf k zero parent x j e = refl
-  end_at_leaf k (suc levels) parent x j e =
-      ap (went_down k (end_of shapes k levels x) (record { parent = parent; leaf = x })) e
+  end_at_leaf k (suc levels) parent x j e = rw e
 
   -- and goes on from an internal node
   pub end_below : (k levels parent x m l r : ℕ) → shapes x ≡ Some (Internal m l r)
       → end_of shapes k (suc levels) parent x ≡ end_of shapes k levels x (if nat_lt k m then l else r)
-  end_below k levels parent x m l r e =
-      ap (went_down k (end_of shapes k levels x) (record { parent = parent; leaf = x })) e
+  end_below k levels parent x m l r e = rw e
