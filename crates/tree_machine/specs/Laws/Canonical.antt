@@ -54,21 +54,14 @@ abbrev pub roots_behind : Parts → List ℕ → List ℕ → List ℕ
 roots_behind s nodes records =
     as_cells (length s.nodes) nodes records ++ numbers_from (length (parts_graph s)) (length (parts_held s))
 
--- nodes and records that an order begins with are the first among its nodes and its records
-module _ (s : Parts) (order nodes records behind : List ℕ)
-    (is : order ≡ as_cells (length s.nodes) nodes records ++ behind)
-    (below : AllByRecursion (λ x. x < length s.nodes) nodes) where
-  first_nodes : Extends nodes (nodes_of s order)
-  first_nodes = record {
-    rest = nodes_of s behind;
-    is = ap (nodes_of s) is ∙ nodes_first _ (length s.records) nodes records _ below;
-  }
-
-  first_records : AllByRecursion (λ y. y < length s.records) records → Extends records (records_of s order)
-  first_records records_below = record {
-    rest = records_of s behind;
-    is = ap (records_of s) is ∙ records_first _ _ nodes records _ below records_below;
-  }
+-- nodes that an order begins with are the first among its nodes
+first_nodes : (s : Parts) (order nodes records behind : List ℕ)
+    → order ≡ as_cells (length s.nodes) nodes records ++ behind → AllByRecursion (λ x. x < length s.nodes) nodes
+    → Extends nodes (nodes_of s order)
+first_nodes s order nodes records behind is below = record {
+  rest = nodes_of s behind;
+  is = ap (nodes_of s) is ∙ nodes_first _ (length s.records) nodes records _ below;
+}
 
 -- what is met is in range
 met_distinct_in : {n : ℕ} (xs : List ℕ) → IsDistinct nat_eq xs → AllByRecursion (λ x. x < n) xs → AreDistinctIn 0 n xs
@@ -80,24 +73,21 @@ met_distinct_in {n} xs distinct below = record {
 module _ (fixed : ℕ) (s : Parts) (h : ArePartsInRange fixed s) where
   -- what a walk meets names only what it meets
   module _ (roots : List ℕ) (rooted : IsRooted (all_cells s) roots) where
-    part_met : (x : ℕ) (p : Part) → Has (order_of (all_cells s) roots) x
-        → content_at (all_cells s) x ≡ part_cell (length s.nodes) p
-        → IsPartBelow (length s.nodes) (length s.records) p
-        → IsPartMet (nodes_of s (order_of (all_cells s) roots)) (records_of s (order_of (all_cells s) roots)) p
+    abbrev order : List ℕ
+    order = order_of (all_cells s) roots
+
+    part_met : (x : ℕ) (p : Part) → Has order x → content_at (all_cells s) x ≡ part_cell (length s.nodes) p
+        → IsPartBelow (length s.nodes) (length s.records) p → IsPartMet (nodes_of s order) (records_of s order) p
     part_met x p g e b =
-        let order = order_of (all_cells s) roots in
         let k = place_from_has order x g in
         names_met (length s.nodes) (length s.records) order p.nodes p.records
         (recursion_from_All _ _ b.nodes) (recursion_from_All _ _ b.records)
-        (subst (λ c. HasAll order c.refs) e
-        (order_closed (all_cells s) roots rooted k.0 x (get_place order x k.0 k.1)))
+        (rw e at (order_closed (all_cells s) roots rooted k.0 x (get_place order x k.0 k.1)))
 
-    order_met : Extends (numbers_from 0 fixed) (nodes_of s (order_of (all_cells s) roots))
-        → AreMet fixed s (nodes_of s (order_of (all_cells s) roots)) (records_of s (order_of (all_cells s) roots))
+    order_met : Extends (numbers_from 0 fixed) (nodes_of s order) → AreMet fixed s (nodes_of s order) (records_of s order)
     order_met first =
         let n = length s.nodes in
         let r = length s.records in
-        let order = order_of (all_cells s) roots in
         let distinct = (met_in_order (all_cells s) roots rooted (length (all_cells s))).distinct in
         record {
           nodes_distinct = nodes_distinct n order distinct;
@@ -116,25 +106,24 @@ module _ (fixed : ℕ) (s : Parts) (h : ArePartsInRange fixed s) where
   -- ---- the front
 
   fixed_all : (m : ℕ) → length s.nodes ≤ m → All (λ x. x < m) (numbers_from 0 fixed)
-  fixed_all m l = numbers_all (λ x. x < m) 0 fixed (λ x g k. omega (arith, h.fixed_in_range))
+  fixed_all m l = numbers_all (λ x. x < m) 0 fixed (omega (arith, h.fixed_in_range))
 
-  pub fixed_cells : IsRooted (parts_graph s ++ parts_held s) (numbers_from 0 fixed)
+  pub fixed_cells : IsRooted (all_cells s) (numbers_from 0 fixed)
   fixed_cells =
       cells_rooted fixed s h _ (fixed_all _ (omega (arith, length-cells s))) (distinct_in_row 0 fixed).distinct
 
   -- what is held plays no part in it
-  pub front_same : order_of (parts_graph s ++ parts_held s) (numbers_from 0 fixed) ≡ front_order fixed s
+  pub front_same : order_of (all_cells s) (numbers_from 0 fixed) ≡ front_order fixed s
   front_same =
       order_front (parts_graph s) (parts_held s) (numbers_from 0 fixed)
       (graph_rooted fixed s h _ (fixed_all _ (omega (arith, length-parts_graph s))) (distinct_in_row 0 fixed).distinct)
 
   pub front_met : AreMet fixed s (front_nodes fixed s) (front_records fixed s)
   front_met =
-      let order = order_of (all_cells s) (numbers_from 0 fixed) in
       let first = met_in_extends (all_cells s) (numbers_from 0 fixed) (length (all_cells s)) in
       subst (λ o. AreMet fixed s (nodes_of s o) (records_of s o)) front_same
       (order_met (numbers_from 0 fixed) fixed_cells
-      (first_nodes s order (numbers_from 0 fixed) [] first.rest (rw append-nil first.is)
+      (first_nodes s _ (numbers_from 0 fixed) [] first.rest (rw append-nil first.is)
       (recursion_from_All _ _ (fixed_all _ (omega arith)))))
 
   -- ---- behind nodes and records that have what they name
@@ -155,11 +144,13 @@ module _ (fixed : ℕ) (s : Parts) (h : ArePartsInRange fixed s) where
         distinct_in_join 0 _ m _ (as_cells n nodes records) _ (omega arith) graph (distinct_in_row m held) in
         cells_rooted fixed s h _ (λ k d l. omega (arith, roots.within k d l)) roots.distinct
 
-    all_behind : Extends (roots_behind s nodes records) (order_behind nodes records s)
+    abbrev all : List ℕ
+    all = order_behind nodes records s
+
+    all_behind : Extends (roots_behind s nodes records) all
     all_behind = met_in_extends (all_cells s) (roots_behind s nodes records) (length (all_cells s))
 
-    begins : order_behind nodes records s
-        ≡ as_cells (length s.nodes) nodes records
+    begins : all ≡ as_cells (length s.nodes) nodes records
         ++ (numbers_from (length (parts_graph s)) (length (parts_held s)) ++ all_behind.rest)
     begins = all_behind.is ∙ append_assoc (as_cells (length s.nodes) nodes records) _ _
 
@@ -169,29 +160,25 @@ module _ (fixed : ℕ) (s : Parts) (h : ArePartsInRange fixed s) where
 
     pub records_extended : Extends records
         (records_met (length s.nodes) (length s.records) (order_behind nodes records s))
-    records_extended = first_records s _ nodes records _ begins met.nodes_below met.records_below
+    records_extended = record {
+      rest = _;
+      is = ap (records_of s) begins ∙ records_first _ _ nodes records _ met.nodes_below met.records_below;
+    }
 
-    behind_met : AreMet fixed s (nodes_of s (order_behind nodes records s))
-        (records_of s (order_behind nodes records s))
+    behind_met : AreMet fixed s (nodes_of s all) (records_of s all)
     behind_met =
         order_met (roots_behind s nodes records) rooted_behind (extends_more met.fixed_first nodes_extended)
 
-    held_has : (i : ℕ) → i < length s.held → Has (order_behind nodes records s) (length (parts_graph s) + i)
+    held_has : (i : ℕ) → i < length s.held → Has all (length (parts_graph s) + i)
     held_has i l =
         let m = length (parts_graph s) in
-        has_extends all_behind (m + i)
-        (rw (
-          list_any-append,
-          has_at (numbers_from m (length (parts_held s))) i (m + i)
-              (number_at m (length (parts_held s)) i (simp length-map l)),
-        ) (or-true _))
+        let among = has_at (numbers_from m (length (parts_held s))) i (m + i) (number_at m _ i (simp length-map l)) in
+        has_extends all_behind (m + i) (rw (list_any-append, among) (or-true _))
 
-    held_met : AllByRecursion
-        (IsPartMet (nodes_of s (order_behind nodes records s)) (records_of s (order_behind nodes records s))) s.held
+    held_met : AllByRecursion (IsPartMet (nodes_of s all) (records_of s all)) s.held
     held_met =
-        let order = order_behind nodes records s in
         recursion_from_All _ s.held
-        (all_parts (IsPartMet (nodes_of s order) (records_of s order)) s.held (λ i l.
+        (all_parts (IsPartMet (nodes_of s all) (records_of s all)) s.held (λ i l.
         (part_met (roots_behind s nodes records) rooted_behind (length (parts_graph s) + i) _ (held_has i l)
         (held_at s i l) (part_all (IsPartBelow (length s.nodes) (length s.records)) s.held h.held i l))))
 
@@ -217,7 +204,5 @@ module _ (fixed : ℕ) (s : Parts) (h : ArePartsInRange fixed s) where
       (omega (arith, ap length walk_met.fixed_first.is, length-append {A = ℕ}, length-numbers_from))
 
   -- the roots of the second walk
-  pub front_roots : IsRooted (parts_graph s ++ parts_held s)
-      (as_cells (length s.nodes) (front_nodes fixed s) (front_records fixed s)
-      ++ numbers_from (length (parts_graph s)) (length (parts_held s)))
+  pub front_roots : IsRooted (all_cells s) (roots_behind s (front_nodes fixed s) (front_records fixed s))
   front_roots = rooted_behind (front_nodes fixed s) (front_records fixed s) front_met

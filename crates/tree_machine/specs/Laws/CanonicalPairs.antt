@@ -1,6 +1,7 @@
 -- Canonical parts of two states.
-use Rattle.std.proofs.Common.{◌≡◌, ℕ, ◌+◌, ◌-◌, ◌<◌, ◌↔◌, List, length, refl, inl, inr, arith}
+use Rattle.std.proofs.Common.{◌≡◌, ℕ, ◌+◌, ◌-◌, ◌<◌, ◌↔◌, List, length, refl, arith}
 use Rattle.std.specs.List.{AllZip, zip}
+use Rattle.std.proofs.lemmas.Bool.Decides.{nat_tests}
 use Rattle.std.proofs.lemmas.List.{length-map}
 use Rattle.tree_machine.specs.Pairing.{IsAmong}
 use Rattle.tree_machine.specs.Graphs.{numbers_from}
@@ -11,8 +12,7 @@ use Rattle.tree_machine.specs.Laws.Cells.{AllZip-weaker, orders_paired}
 use Rattle.tree_machine.specs.Laws.CellLists.{numbers_zip, zip_join}
 use Rattle.tree_machine.specs.Laws.PartCells.{all_cells, length-parts_graph, Paired, held_long, cells_pairing}
 use Rattle.tree_machine.specs.Laws.PartCells.{paired_node, paired_record}
-use Rattle.tree_machine.specs.Laws.MetLists.{PassAlike, filter_zip, is_node, is_record, map_zip, test_node}
-use Rattle.tree_machine.specs.Laws.MetLists.{test_other, test_record, test_before, test_behind}
+use Rattle.tree_machine.specs.Laws.MetLists.{PassAlike, filter_zip, is_node, is_record, map_zip}
 use Rattle.tree_machine.specs.Laws.PartsBy.{by_same, paired_from_same}
 use Rattle.tree_machine.specs.Laws.Canonical.{fixed_cells, front_met, front_same}
 use Rattle.tree_machine.specs.Laws.Canonical.{roots_behind, rooted_behind, walk_held, walk_met}
@@ -22,18 +22,13 @@ module _ (P R : ℕ → ℕ → Type 0) (fixed : ℕ) (s t : Parts) (h : ArePart
   -- both are nodes that P pairs, or neither is a node
   nodes_apart : (x y : ℕ) → Paired P R s t x y
       → PassAlike (is_node (length s.nodes)) (is_node (length t.nodes)) P x y
-  nodes_apart x y (inl (l, k, q)) = inl (test_node _ x l, test_node _ y k, q)
-  nodes_apart x y (inr (l, k, q)) = inr (test_other _ x l, test_other _ y k)
+  nodes_apart x y q = grind (arith, nat_tests)
 
   -- both are records that R pairs, or neither is a record
   records_apart : (x y : ℕ) → Paired P R s t x y
       → PassAlike (is_record (length s.nodes) (length s.records)) (is_record (length t.nodes) (length t.records))
       (λ x y. R (x - length s.nodes) (y - length t.nodes)) x y
-  records_apart x y (inl (l, k, q)) = inr (test_before _ _ x l, test_before _ _ y k)
-  records_apart x y (inr (l, k, inl (i, j, q))) =
-      inl (test_record _ _ x l (omega arith), test_record _ _ y k (omega arith), q)
-  records_apart x y (inr (l, k, inr (i, j, q))) =
-      inr (test_behind _ _ x (omega arith), test_behind _ _ y (omega arith))
+  records_apart x y q = grind (arith, nat_tests)
 
   -- orders that are paired have paired nodes and paired records
   split_pairs : (xs ys : List ℕ) → AllZip (Paired P R s t) xs ys

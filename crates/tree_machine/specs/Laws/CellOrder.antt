@@ -148,10 +148,8 @@ module _ (cells : List Content) (roots : List ℕ) (h : IsRooted cells roots) wh
   met_in_stable zero = ap (met_in cells roots) (add-zero (length cells))
   met_in_stable (suc n) =
       let m = length cells + n in
-      let past : slice_get (met_in cells roots m) m ≡ None =
-      slice_get_past (met_in cells roots m) m
-      (omega (arith, length-order (length cells) (met_in cells roots m) (met_in_order m))) in
-      rw (add-suc (length cells) n, past) (met_in_stable n)
+      let short = length-order (length cells) (met_in cells roots m) (met_in_order m) in
+      rw (add-suc (length cells) n, slice_get_past (met_in cells roots m) m (omega arith)) (met_in_stable n)
 
 pub visited_extends : (cells : List Content) (order : List ℕ) (r : Option ℕ) → Extends order (visited cells order r)
 visited_extends cells order None = extends_itself order
@@ -168,8 +166,7 @@ IsClosedBelow cells n order = (k x : ℕ) → k < n → slice_get order k ≡ So
 
 visited_closed : (cells : List Content) (n : ℕ) (order : List ℕ) → IsClosedBelow cells n order → (r : Option ℕ)
     → slice_get order n ≡ r → IsClosedBelow cells (suc n) (visited cells order r)
-visited_closed cells n order h None at k x l g =
-    elim (cases_eq k n) [ inl e ↦ cc | inr other ↦ h k x (omega arith) g ]
+visited_closed cells n order h None at k x l g = grind (arith, h k x)
 visited_closed cells n order h (Some z) at k x l g =
     let more = visited_extends cells order (Some z) in
     let far = slice_get_within order n z at in

@@ -60,8 +60,7 @@ AllZip-weaker P Q h _ _ z = absurd z
 zip_at_each : (P : ℕ → ℕ → Type 0) (xs ys : List ℕ) → length xs ≡ length ys
     → ((k x y : ℕ) → slice_get xs k ≡ Some x → slice_get ys k ≡ Some y → P x y) → AllZip P xs ys
 zip_at_each P [] [] l h = tt
-zip_at_each P (x ∷ xs) (y ∷ ys) l h =
-    (h zero x y refl refl, zip_at_each P xs ys (omega arith) (λ k. h (suc k)))
+zip_at_each P (x ∷ xs) (y ∷ ys) l h = (h zero x y refl refl, zip_at_each P xs ys (omega arith) (λ k. h (suc k)))
 zip_at_each P _ _ l h = absurd (omega arith)
 
 pub refs_from_renamed : (xs ys : List ℕ) (refs sefs : List (Option ℕ)) → HasAll xs refs → HasAll ys sefs
@@ -69,18 +68,12 @@ pub refs_from_renamed : (xs ys : List ℕ) (refs sefs : List (Option ℕ)) → H
     → AllZip (IsPairedOrNone (IsAmong (zip xs ys))) refs sefs
 refs_from_renamed xs ys [] [] h g e = tt
 refs_from_renamed xs ys (None ∷ refs) (None ∷ sefs) h g e = (tt, refs_from_renamed xs ys refs sefs h g (cc))
-refs_from_renamed xs ys (None ∷ refs) (Some y ∷ sefs) h g e =
-    let k = place_from_has ys y g.0 in
-    cc k.1
-refs_from_renamed xs ys (Some x ∷ refs) (None ∷ sefs) h g e =
-    let k = place_from_has xs x h.0 in
-    cc k.1
+refs_from_renamed xs ys (None ∷ refs) (Some y ∷ sefs) h g e = let k = place_from_has ys y g.0 in cc k.1
+refs_from_renamed xs ys (Some x ∷ refs) (None ∷ sefs) h g e = let k = place_from_has xs x h.0 in cc k.1
 refs_from_renamed xs ys (Some x ∷ refs) (Some y ∷ sefs) h g e =
     let k = place_from_has xs x h.0 in
-    let same : place_in xs x ≡ place_in ys y = cc in (
-      among_at xs ys k.0 x y (get_place xs x k.0 k.1) (get_place ys y k.0 (sym same ∙ k.1)),
-      refs_from_renamed xs ys refs sefs h.1 g.1 (cc),
-    )
+    let here = among_at xs ys k.0 x y (get_place xs x k.0 k.1) (get_place ys y k.0 (cc (e, k.1))) in
+    (here, refs_from_renamed xs ys refs sefs h.1 g.1 (cc))
 refs_from_renamed xs ys _ _ h g e = cc
 
 module _ (cells others : List Content) (roots targets : List ℕ) (rooted : IsRooted cells roots)

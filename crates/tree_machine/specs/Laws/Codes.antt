@@ -10,8 +10,8 @@ use Rattle.tree_machine.specs.Flat.{parts_code, reference_number}
 use Rattle.tree_machine.specs.Laws.Flat.{each_readable, facts_split, number_read, number_split}
 use Rattle.tree_machine.specs.declared.front.Front.{Front}
 use Rattle.tree_machine.specs.Alike.{FormContent, places_of, replies_of, notes_of}
-use Rattle.tree_machine.specs.FormCode.{IsInjective, TellsWholly, content_code, cut_code, state_code}
-use Rattle.tree_machine.specs.Laws.FormCode.{content_readable, halves, state_content}
+use Rattle.tree_machine.specs.FormCode.{IsInjective, TellsWholly, cut_code, state_code}
+use Rattle.tree_machine.specs.Laws.FormCode.{halves, state_content, state_pieces}
 use Rattle.tree_machine.specs.declared.state.Thread.{Thread}
 use Rattle.tree_machine.specs.declared.state.State.{State}
 
@@ -19,8 +19,7 @@ use Rattle.tree_machine.specs.declared.state.State.{State}
 pub map_tells : {X Y : Type 0} (f : X → Y) → ((x y : X) → f x ≡ f y → x ≡ y) → (xs ys : List X) → map f xs ≡ map f ys
     → xs ≡ ys
 map_tells f tells [] [] e = refl
-map_tells f tells (x ∷ xs) (y ∷ ys) e =
-    cc (tells x y (cc), map_tells f tells xs ys (cc))
+map_tells f tells (x ∷ xs) (y ∷ ys) e = cc (tells x y (cc), map_tells f tells xs ys (cc))
 map_tells f tells _ _ e = cc
 
 -- ---- cells
@@ -43,10 +42,9 @@ cell_split c d xs ys e =
 same_part : (p q : Part) → part_content p ≡ part_content q → p ≡ q
 same_part p q e =
     let f = ap (λ (c : Content). c.facts) e in
-    let r = ap (λ (c : Content). c.refs) e in
     let lengths : length p.nodes ≡ length q.nodes = cc in
     let facts : p.facts ≡ q.facts = cc in
-    let names = halves p.nodes q.nodes p.records q.records lengths r in
+    let names = halves p.nodes q.nodes p.records q.records lengths (ap (λ (c : Content). c.refs) e) in
     λ i. record { facts = facts i; nodes = names.0 i; records = names.1 i }
 
 -- equally many parts in front of other bytes
@@ -63,9 +61,7 @@ graph_split : (ns rs ms ss : List Part) (xs ys : List ℕ) → graph_code ns rs 
 graph_split ns rs ms ss xs ys e =
     let nodes = number_read (length ns) (length ms) _ _ (simp append_assoc at e) in
     let records = number_read (length rs) (length ss) _ _ nodes.1 in
-    let long : length (ns ++ rs) ≡ length (ms ++ ss) =
-    omega (arith, length-append ns rs, length-append ms ss, nodes.0, records.0) in
-    let split = parts_split (ns ++ rs) (ms ++ ss) xs ys long records.1 in
+    let split = parts_split (ns ++ rs) (ms ++ ss) xs ys (simp length-append (omega arith)) records.1 in
     let both = halves ns ms rs ss nodes.0 split.0 in
     (both.0, both.1, split.1)
 
@@ -113,10 +109,8 @@ pub state_codes_tell : {Machine Memory Place Form : Type 0} (code twin_code : Me
     → TellsWholly code twin_code → (s t : State Machine Memory Place Form)
     → state_code code s ≡ state_code twin_code t → s ≡ t
 state_codes_tell code twin_code tells s t e =
-    let here = state_content code s in
-    let there = state_content twin_code t in
-    let steps = number_split s.steps t.steps (content_code (λ l. l) here) (content_code (λ l. l) there) e in
-    let same = content_readable (λ l. l) (λ a b h. h) here there steps.1 in
+    let pieces = state_pieces code s t.steps (state_content twin_code t) e in
+    let same = pieces.1 in
     let replies = ap (λ (c : FormContent (List ℕ)). c.replies) same in
     let many : length (places_of s.threads) ≡ length (places_of t.threads) =
     simp length-map (simp length-map at (ap length replies)) in
@@ -126,7 +120,7 @@ state_codes_tell code twin_code tells s t e =
     let threads =
     same_threads s.threads t.threads form.1 replies (ap (λ (c : FormContent (List ℕ)). c.notes) same) in
     let astray = ap (λ (c : FormContent (List ℕ)). c.astray) same in
-    λ i. record { memory = form.0 i; threads = threads i; steps = steps.0 i; astray = astray i }
+    λ i. record { memory = form.0 i; threads = threads i; steps = pieces.0 i; astray = astray i }
 
 pub state_code_tells : {Machine Memory Place Form : Type 0} (code : Memory → List (Option Place) → List ℕ)
     → TellsWholly code code → IsInjective (state_code {Machine = Machine} {Form = Form} code)

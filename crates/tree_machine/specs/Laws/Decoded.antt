@@ -7,13 +7,12 @@ use Rattle.std.specs.Option.{option_map}
 use Rattle.std.proofs.lemmas.Option.{get_or_from_slice_get, same_Some, slice_get-map, slice_get_within}
 use Rattle.sched_program.specs.Program.{Program}
 use Rattle.tree_machine.specs.Alike.{AreStatesAlike, FormContent, places_of, replies_of}
-use Rattle.tree_machine.specs.FormCode.{content_code, named_code, state_code}
+use Rattle.tree_machine.specs.FormCode.{named_code, state_code}
 use Rattle.tree_machine.specs.InRange.{AreNumbersInRange}
 use Rattle.tree_machine.specs.Pairing.{AreAlike, AreHeldPaired}
 use Rattle.tree_machine.specs.Rules.{Rules, ArePlacesInRange, DecodesForms}
 use Rattle.tree_machine.specs.Step.{Fits}
-use Rattle.tree_machine.specs.Laws.Flat.{number_split}
-use Rattle.tree_machine.specs.Laws.FormCode.{content_readable, state_content}
+use Rattle.tree_machine.specs.Laws.FormCode.{state_content, state_pieces}
 use Rattle.tree_machine.specs.declared.state.Thread.{Thread}
 use Rattle.tree_machine.specs.declared.state.State.{State}
 
@@ -48,11 +47,7 @@ module _ {Machine Memory Place Form : Type 0} (rules : Rules Memory Place)
     (s c : State Machine Memory Place Form) (range : AreNumbersInRange rules s)
     (same : state_code own_code c ≡ named_code form_code form_of s) where
   pieces : (c.steps ≡ 0) × (state_content own_code c ≡ state_content (λ m held. form_code (form_of m held)) s)
-  pieces =
-      let whole = state_content own_code c in
-      let named = state_content (λ m held. form_code (form_of m held)) s in
-      let steps = number_split c.steps 0 (content_code (λ l. l) whole) (content_code (λ l. l) named) same in
-      (steps.0, content_readable (λ l. l) (λ a b h. h) whole named steps.1)
+  pieces = state_pieces own_code c 0 (state_content (λ m held. form_code (form_of m held)) s) same
 
   same_replies : replies_of c.threads ≡ replies_of s.threads
   same_replies = ap (λ (x : FormContent (List ℕ)). x.replies) pieces.1

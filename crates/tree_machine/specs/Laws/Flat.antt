@@ -1,9 +1,8 @@
 -- Bytes determine the numbers and the facts that they begin with.
-use Rattle.std.proofs.Common.{◌≡◌, ℕ, zero, suc, ◌+◌, ◌*◌, ◌/◌, ◌%◌, ◌<◌, ◌⊎◌, List, []}
-use Rattle.std.proofs.Common.{◌∷◌, ◌++◌, length, replicate, refl, inl, inr, arith, append_assoc}
-use Rattle.std.specs.Prelude.{nat_lt, ◌&&◌}
+use Rattle.std.proofs.Common.{◌≡◌, ℕ, zero, suc, ◌/◌, ◌%◌, ◌<◌, List, []}
+use Rattle.std.proofs.Common.{◌∷◌, ◌++◌, length, replicate, refl, arith, append_assoc}
 use Rattle.std.specs.List.{flat_map}
-use Rattle.std.proofs.lemmas.Bool.{and_parts, cases_Bool, ltb-true}
+use Rattle.std.proofs.lemmas.Bool.Decides.{nat_tests}
 use Rattle.std.proofs.lemmas.List.Concat.{flat_map-cons}
 use Rattle.tree_machine.specs.Flat.{number_code, long_code, facts_code}
 
@@ -43,44 +42,20 @@ each_readable code readable _ _ xs ys l e = absurd (omega arith)
 
 -- ---- facts
 
--- facts whose code is a head of one byte and the other facts, or the long code of all
-IsShortOrLong : List ℕ → ℕ → Type 0
-IsShortOrLong facts refs =
-    ((first : ℕ) × (more : List ℕ) × (facts ≡ first ∷ more) × (first < 6) × (length more < 5) × (refs < 8)
-    × (facts_code facts refs ≡ (length more + 5 * first + 30 * refs) ∷ flat_map number_code more))
-    ⊎ (facts_code facts refs ≡ long_code facts refs)
-
-short_or_long : (facts : List ℕ) (refs : ℕ) → IsShortOrLong facts refs
-unfolding IsShortOrLong
-short_or_long [] refs = inr refl
-short_or_long (first ∷ more) refs =
-    elim (cases_Bool (nat_lt first 6 && (nat_lt (length more) 5 && nat_lt refs 8))) [
-      | inl e ↦
-          let p = and_parts (nat_lt first 6) (nat_lt (length more) 5 && nat_lt refs 8) e in
-          let q = and_parts (nat_lt (length more) 5) (nat_lt refs 8) p.1 in
-          inl (first, more, refl, ltb-true first 6 p.0, ltb-true (length more) 5 q.0, ltb-true refs 8 q.1, rw e refl)
-      | inr e ↦ inr (rw e refl)
-    ]
+-- the long code of facts and of how many references there are
+long_split : (fs gs : List ℕ) (r s : ℕ) (xs ys : List ℕ) → long_code fs r ++ xs ≡ long_code gs s ++ ys
+    → (fs ≡ gs) × (r ≡ s) × (xs ≡ ys)
+long_split fs gs r s xs ys e =
+    let bytes = simp append_assoc at e in
+    let lengths = number_read (length fs) (length gs) _ _ (cc bytes) in
+    let refs = number_read r s _ _ lengths.1 in
+    let facts = each_readable number_code number_split fs gs xs ys lengths.0 refs.1 in
+    (facts.0, refs.0, facts.1)
 
 pub facts_split : (fs gs : List ℕ) (r s : ℕ) (xs ys : List ℕ) → facts_code fs r ++ xs ≡ facts_code gs s ++ ys
     → (fs ≡ gs) × (r ≡ s) × (xs ≡ ys)
-unfolding IsShortOrLong
-facts_split fs gs r s xs ys e = go (short_or_long fs r) (short_or_long gs s)
-  where
-    go : IsShortOrLong fs r → IsShortOrLong gs s → (fs ≡ gs) × (r ≡ s) × (xs ≡ ys)
-    go (inl (a, ms, f, low, few, small, p)) (inl (b, ns, g, down, less, little, q)) =
-        let bytes = rw (p, q) at e in
-        let head : length ms + 5 * a + 30 * r ≡ length ns + 5 * b + 30 * s = cc bytes in
-        let behind : flat_map number_code ms ++ xs ≡ flat_map number_code ns ++ ys = cc bytes in
-        let refs : r ≡ s = omega arith in
-        let first : a ≡ b = omega arith in
-        let facts = each_readable number_code number_split ms ns xs ys (omega arith) behind in
-        (cc (f, g, first, facts.0), refs, facts.1)
-    go (inl p) (inr q) = let heads = rw (p.6, q) at e in grind arith
-    go (inr p) (inl q) = let heads = rw (p, q.6) at e in grind arith
-    go (inr p) (inr q) =
-        let bytes = simp append_assoc at (rw (p, q) at e) in
-        let lengths = number_read (length fs) (length gs) _ _ (cc bytes) in
-        let refs = number_read r s _ _ lengths.1 in
-        let facts = each_readable number_code number_split fs gs xs ys lengths.0 refs.1 in
-        (facts.0, refs.0, facts.1)
+facts_split [] [] r s xs ys e = long_split [] [] r s xs ys e
+facts_split [] (b ∷ ns) r s xs ys e = grind (arith, nat_tests, long_split [] (b ∷ ns) r s xs ys)
+facts_split (a ∷ ms) [] r s xs ys e = grind (arith, nat_tests, long_split (a ∷ ms) [] r s xs ys)
+facts_split (a ∷ ms) (b ∷ ns) r s xs ys e =
+    grind (arith, nat_tests, each_readable number_code number_split ms ns xs ys, long_split (a ∷ ms) (b ∷ ns) r s xs ys)

@@ -11,6 +11,8 @@ use Rattle.tree_machine.specs.Laws.CellOrder.{nat_equivalence}
 use Rattle.tree_machine.specs.Alike.{FormContent, notes_of, places_of, replies_of}
 use Rattle.tree_machine.specs.Laws.StateExact.{same_answer}
 use Rattle.tree_machine.specs.FormCode.{list_code, replies_code, note_code, astray_code, content_code, IsInjective}
+use Rattle.tree_machine.specs.FormCode.{state_code}
+use Rattle.tree_machine.specs.Flat.{number_code}
 use Rattle.tree_machine.specs.Laws.Flat.{number_split, IsReadable, each_readable}
 use Rattle.tree_machine.specs.Laws.Packed.{digits_of_number}
 use Rattle.tree_machine.specs.Laws.ShortNotes.{counts_of_number, number_below}
@@ -80,3 +82,12 @@ module _ {Form : Type 0} (code : Form → List ℕ) (readable : IsInjective code
       same_answer _ _
       (λ h. rw (content_readable a b (list_exact nat_exact _ _ h)) (equivalence.refl b))
       (λ h. rw (exact a b h) ((lists_equiv nat_equivalence).refl (content_code code b)))
+
+-- equal bytes are of equal steps and contents
+pub state_pieces : {Machine Memory Place Form : Type 0} (code : Memory → List (Option Place) → List ℕ)
+    (s : State Machine Memory Place Form) (steps : ℕ) (content : FormContent (List ℕ))
+    → state_code code s ≡ number_code steps ++ content_code (λ l. l) content
+    → (s.steps ≡ steps) × (state_content code s ≡ content)
+state_pieces code s steps content e =
+    let same = number_split s.steps steps (content_code (λ l. l) (state_content code s)) _ e in
+    (same.0, content_readable (λ l. l) (λ a b h. h) (state_content code s) content same.1)

@@ -46,14 +46,13 @@ places_in_row ys d a _ _ h z = absurd z
 own_names : (f : ℕ) (xs : List ℕ) → IsDistinct nat_eq xs → Extends (numbers_from 0 f) xs → (refs : List (Option ℕ))
     → HasAll (numbers_from 0 f) refs → map (option_and_then (place_in xs)) refs ≡ refs
 own_names f xs d e [] h = refl
-own_names f xs d e (None ∷ refs) h = ap (λ l. None ∷ l) (own_names f xs d e refs h)
+own_names f xs d e (None ∷ refs) h = cc (own_names f xs d e refs h)
 own_names f xs d e (Some x ∷ refs) h =
-    let below =
-    all_has (λ x. x < f) _ (recursion_from_All _ _ (numbers_all (λ x. x < f) 0 f (λ x l k. omega arith))) x h.0 in
+    let below = all_has (λ x. x < f) _ (recursion_from_All _ _ (numbers_all (λ x. x < f) 0 f (omega arith))) x h.0 in
     cc (place_at xs d x x (get_extends e x x (own_number x below)), own_names f xs d e refs h.1)
 
 taken_first : (f : ℕ) (xs : List ℕ) → Extends (numbers_from 0 f) xs → take f xs ≡ numbers_from 0 f
-taken_first f xs e = ap (take f) e.is ∙ take_at (numbers_from 0 f) e.rest f (length-numbers_from 0 f)
+taken_first f xs e = rw (e.is, take_at (numbers_from 0 f) e.rest f (length-numbers_from 0 f))
 
 -- a map that leaves parts as they are, by their numbers from a on
 parts_in_row : (g : ℕ → Part) (a n : ℕ) (parts : List Part) → n ≤ length parts

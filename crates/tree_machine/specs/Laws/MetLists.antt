@@ -24,12 +24,12 @@ use Rattle.tree_machine.specs.Laws.CellPlaces.{among_at, at_among, place_from_ha
 
 pub number_at : (a n i : ℕ) → i < n → slice_get (numbers_from a n) i ≡ Some (a + i)
 number_at a zero i l = absurd (omega arith)
-number_at a (suc n) zero l = ap Some (omega arith)
-number_at a (suc n) (suc i) l = number_at (suc a) n i (omega arith) ∙ ap Some (omega arith)
+number_at a (suc n) zero l = grind arith
+number_at a (suc n) (suc i) l = grind (arith, number_at (suc a) n i)
 
 -- a number below n is at its own place among them
 pub own_number : {n : ℕ} (x : ℕ) → x < n → slice_get (numbers_from 0 n) x ≡ Some x
-own_number {n} x l = number_at 0 n x l ∙ ap Some (zero-add x)
+own_number {n} x l = rw (number_at, zero-add)
 
 -- the numbers of a list, each with its place
 abbrev pub places : List ℕ → List (ℕ × ℕ)
@@ -53,10 +53,8 @@ pub refs_placed : (xs : List ℕ) (refs : List (Option ℕ)) → HasAll xs refs
 refs_placed xs [] h = tt
 refs_placed xs (None ∷ refs) h = (tt, refs_placed xs refs h)
 refs_placed xs (Some x ∷ refs) h =
-    let k = place_from_has xs x h.0 in (
-      rw k.1 (among_places xs x k.0 (get_place xs x k.0 k.1)),
-      refs_placed xs refs h.1,
-    )
+    let k = place_from_has xs x h.0 in
+    (rw k.1 (among_places xs x k.0 (get_place xs x k.0 k.1)), refs_placed xs refs h.1)
 
 -- ---- what a filter keeps
 

@@ -36,8 +36,7 @@ self_among (suc n) x below = grind (arith, self_among n x)
 
 among_self : (n x y : ℕ) → IsAmong (selves n) x y → (x ≡ y) × (x < n)
 among_self zero x y h = absurd h
-among_self (suc n) x y (inl e) = omega arith
-among_self (suc n) x y (inr h) = omega (arith, among_self n x y h)
+among_self (suc n) x y h = grind (arith, among_self n x y)
 
 selves_one : (n : ℕ) → IsOneToOne (IsAmong (selves n))
 selves_one n x y a b p q =

@@ -35,25 +35,23 @@ all_parts P parts f =
 pub length-parts_graph : (s : Parts) → length (parts_graph s) ≡ length s.nodes + length s.records
 length-parts_graph s = simp (length-append, length-map)
 
-pub length-cells : (s : Parts) → length (parts_graph s ++ parts_held s)
-    ≡ length s.nodes + length s.records + length s.held
-length-cells s = simp (length-append, length-map)
-
 -- nodes, records and what is held, as cells
 abbrev pub all_cells : Parts → List Content
 all_cells s = parts_graph s ++ parts_held s
 
+pub length-cells : (s : Parts) → length (all_cells s) ≡ length s.nodes + length s.records + length s.held
+length-cells s = simp (length-append, length-map)
+
 -- nodes, records and what is held, among all cells
 pub node_at : (s : Parts) (x : ℕ) → x < length s.nodes
-    → content_at (parts_graph s ++ parts_held s) x ≡ part_cell (length s.nodes) (part_at s.nodes x)
+    → content_at (all_cells s) x ≡ part_cell (length s.nodes) (part_at s.nodes x)
 node_at s x l =
     content_front (parts_graph s) _ x (omega (arith, length-parts_graph s))
     ∙ content_front _ _ x (simp length-map l)
     ∙ content_map (part_cell (length s.nodes)) s.nodes x l
 
 pub record_at : (s : Parts) (y : ℕ) → y < length s.records
-    → content_at (parts_graph s ++ parts_held s) (length s.nodes + y)
-    ≡ part_cell (length s.nodes) (part_at s.records y)
+    → content_at (all_cells s) (length s.nodes + y) ≡ part_cell (length s.nodes) (part_at s.records y)
 record_at s y l =
     content_front (parts_graph s) _ (length s.nodes + y) (omega (arith, length-parts_graph s))
     ∙ ap (λ n. content_at (parts_graph s) (n + y)) (sym (length-map s.nodes (part_cell (length s.nodes))))
@@ -61,8 +59,7 @@ record_at s y l =
     ∙ content_map (part_cell (length s.nodes)) s.records y l
 
 pub held_at : (s : Parts) (i : ℕ) → i < length s.held
-    → content_at (parts_graph s ++ parts_held s) (length (parts_graph s) + i)
-    ≡ part_cell (length s.nodes) (part_at s.held i)
+    → content_at (all_cells s) (length (parts_graph s) + i) ≡ part_cell (length s.nodes) (part_at s.held i)
 held_at s i l = content_back (parts_graph s) _ i ∙ content_map (part_cell (length s.nodes)) s.held i l
 
 -- each ref is none or below n
@@ -73,8 +70,7 @@ part_refs_below : (n r m : ℕ) → n + r ≤ m → (p : Part) → IsPartBelow n
 part_refs_below n r m l p h =
     All-append (λ x. IfSome x (λ y. y < m)) p.nodes _
     (All-weaker _ _ (λ x k. IfSome_then x {P = λ y. y < n} {Q = λ y. y < m} k (λ y less. omega arith)) p.nodes h.nodes)
-    (All-map (λ x. IfSome x (λ y. y < m)) (option_map (λ x. n + x)) p.records
-    (All-weaker _ _ raised p.records h.records))
+    (All-map (λ x. IfSome x (λ y. y < m)) _ p.records (All-weaker _ _ raised p.records h.records))
   where
     raised : (x : Option ℕ) → IfSome x (λ y. y < r) → IfSome (option_map (λ x. n + x) x) (λ y. y < m)
     raised None k = tt
@@ -92,15 +88,15 @@ module _ (fixed : ℕ) (s : Parts) (h : ArePartsInRange fixed s) where
       All-append (RefsBelow m) _ _ (cells_below m l s.nodes h.nodes) (cells_below m l s.records h.records)
 
   -- distinct nodes, records and held cells are roots
-  pub cells_rooted : (roots : List ℕ) → All (λ x. x < length (parts_graph s ++ parts_held s)) roots
-      → IsDistinct nat_eq roots → IsRooted (parts_graph s ++ parts_held s) roots
+  pub cells_rooted : (roots : List ℕ) → All (λ x. x < length (all_cells s)) roots → IsDistinct nat_eq roots
+      → IsRooted (all_cells s) roots
   cells_rooted roots range distinct =
       let long = length-cells s in
       record {
         roots_in_range = range;
         roots_distinct = distinct;
         refs_in_range =
-            All-append (RefsBelow (length (parts_graph s ++ parts_held s))) _ _
+            All-append (RefsBelow (length (all_cells s))) _ _
             (graph_below _ (omega arith)) (cells_below _ (omega arith) s.held h.held);
       }
 
@@ -132,18 +128,6 @@ or_none_weaker P Q h None None p = tt
 or_none_weaker P Q h (Some x) (Some y) p = h x y p
 or_none_weaker P Q h _ _ p = absurd p
 
-cells_from_parts : (P R Q : ℕ → ℕ → Type 0) (n m : ℕ) → ((x y : ℕ) → P x y → Q x y)
-    → ((x y : ℕ) → R x y → Q (n + x) (m + y)) → (a b : Part) → ArePartsPaired P R a b
-    → AreCellsPaired Q (part_cell n a) (part_cell m b)
-cells_from_parts P R Q n m f g a b h = record {
-  facts = (let e = length_all_zip (IsPairedOrNone P) a.nodes b.nodes h.nodes in let d = h.facts in cc);
-  refs =
-      zip_join (IsPairedOrNone Q) a.nodes b.nodes _ _
-      (AllZip-weaker _ _ (or_none_weaker P Q f) a.nodes b.nodes h.nodes)
-      (map_zip (IsPairedOrNone Q) _ _ a.records b.records
-      (AllZip-weaker (IsPairedOrNone R) _ (or_none_map R Q _ _ g) a.records b.records h.records));
-}
-
 held_behind : (s : Parts) (i : ℕ) → i < length s.held
     → content_at (all_cells s) (length s.nodes + length s.records + i) ≡ part_cell (length s.nodes) (part_at s.held i)
 held_behind s i l = ap (λ n. content_at (all_cells s) (n + i)) (sym (length-parts_graph s)) ∙ held_at s i l
@@ -159,10 +143,8 @@ BelowOrBehind n m P Q x y = ((x < n) × (y < m) × P x y) ⊎ ((n ≤ x) × (m �
 
 below_or_behind_one : (n m : ℕ) (P Q : ℕ → ℕ → Type 0) → IsOneToOne P → IsOneToOne Q
     → IsOneToOne (BelowOrBehind n m P Q)
-below_or_behind_one n m P Q one then x y v w (inl p) (inl q) = one x y v w p.2 q.2
-below_or_behind_one n m P Q one then x y v w (inr p) (inr q) = grind (arith, then _ _ _ _ p.2 q.2)
-below_or_behind_one n m P Q one then x y v w (inl p) (inr q) = (λ e. omega arith, λ e. omega arith)
-below_or_behind_one n m P Q one then x y v w (inr p) (inl q) = (λ e. omega arith, λ e. omega arith)
+below_or_behind_one n m P Q one then x y v w p q =
+    grind (arith, one x y v w, then (x - n) (y - m) (v - n) (w - m))
 
 module _ (P R : ℕ → ℕ → Type 0) (s t : Parts) where
   -- paired records, or what is held at one place
@@ -182,11 +164,8 @@ module _ (P R : ℕ → ℕ → Type 0) (s t : Parts) where
         let one_place : IsOneToOne (λ i j. (i ≡ j) × (i < length s.held)) = λ x y v w p q. (λ e. cc, λ e. cc) in
         below_or_behind_one _ _ P _ h.nodes_one_to_one (below_or_behind_one _ _ R _ h.records_one_to_one one_place)
 
-    paired_range : (x y : ℕ) → Paired x y
-        → (x < length (parts_graph s ++ parts_held s)) × (y < length (parts_graph t ++ parts_held t))
-    paired_range x y (inl p) = omega (arith, length-cells s, length-cells t)
-    paired_range x y (inr (l, k, inl p)) = omega (arith, length-cells s, length-cells t)
-    paired_range x y (inr (l, k, inr p)) = omega (arith, length-cells s, length-cells t, held_long)
+    paired_range : (x y : ℕ) → Paired x y → (x < length (all_cells s)) × (y < length (all_cells t))
+    paired_range x y p = grind (arith, length-cells s, length-cells t, held_long)
 
     pub paired_node : (x y : ℕ) → P x y → Paired x y
     paired_node x y p = let r = h.nodes_in_range x y p in inl (r.0, r.1, p)
@@ -196,11 +175,17 @@ module _ (P R : ℕ → ℕ → Type 0) (s t : Parts) where
 
     cells_paired : (a b : Part) → ArePartsPaired P R a b
         → AreCellsPaired Paired (part_cell (length s.nodes) a) (part_cell (length t.nodes) b)
-    cells_paired = cells_from_parts P R Paired _ _ paired_node paired_record
+    cells_paired a b k = record {
+      facts = (let e = length_all_zip (IsPairedOrNone P) a.nodes b.nodes k.nodes in let d = k.facts in cc);
+      refs =
+          zip_join (IsPairedOrNone Paired) a.nodes b.nodes _ _
+          (AllZip-weaker _ _ (or_none_weaker P Paired paired_node) a.nodes b.nodes k.nodes)
+          (map_zip (IsPairedOrNone Paired) _ _ a.records b.records
+          (AllZip-weaker (IsPairedOrNone R) _ (or_none_map R Paired _ _ paired_record) a.records b.records k.records));
+    }
 
     paired_cells : (x y : ℕ) → Paired x y
-        → AreCellsPaired Paired (content_at (parts_graph s ++ parts_held s) x)
-        (content_at (parts_graph t ++ parts_held t) y)
+        → AreCellsPaired Paired (content_at (all_cells s) x) (content_at (all_cells t) y)
     paired_cells x y (inl (l, k, p)) = rw (node_at s x l, node_at t y k) (cells_paired _ _ (h.nodes_paired x y p))
     paired_cells x y (inr (l, k, inl (i, j, p))) =
         let e : length s.nodes + (x - length s.nodes) ≡ x = omega arith in
@@ -215,7 +200,7 @@ module _ (P R : ℕ → ℕ → Type 0) (s t : Parts) where
 
     -- paired parts are paired cells, from all roots that are paired
     pub cells_pairing : (roots targets : List ℕ) → AllZip Paired roots targets
-        → IsPairing Paired (parts_graph s ++ parts_held s) roots (parts_graph t ++ parts_held t) targets
+        → IsPairing Paired (all_cells s) roots (all_cells t) targets
     cells_pairing roots targets z = record {
       one_to_one = paired_one;
       in_range = paired_range;

@@ -1,7 +1,7 @@
 -- Pairs that are equal are lawful, and what they pair is equal.
 use Rattle.std.specs.Prelude.{◌≡◌, List, [], ◌∷◌, Option, Some, None, refl, ◌↔◌}
 use Rattle.std.specs.List.{AllZip}
-use Rattle.std.proofs.Common.{subst, sym, ap}
+use Rattle.std.proofs.Common.{subst, sym}
 use Rattle.tree_machine.specs.Pairing.{AreOutcomesPaired, AreHeldPaired, AreAlike, ArePairsLawful}
 use Rattle.tree_machine.specs.Unnumbered.{equal_pairs}
 use Rattle.tree_machine.specs.declared.machine.Outcome.{Outcome}
@@ -21,7 +21,7 @@ module _ {Place : Type 0} where
   held_same : (held twins : List (Option Place)) → AllZip (AreHeldPaired ◌≡◌) held twins
       → held ≡ twins
   held_same [] [] h = refl
-  held_same (None ∷ held) (None ∷ twins) h = ap (λ rest. None ∷ rest) (held_same held twins h.1)
+  held_same (None ∷ held) (None ∷ twins) h = cc (held_same held twins h.1)
   held_same (Some place ∷ held) (Some twin ∷ twins) h = cc (h.0, held_same held twins h.1)
   held_same (_ ∷ held) (_ ∷ twins) h = absurd h.0
   held_same _ _ h = absurd h
