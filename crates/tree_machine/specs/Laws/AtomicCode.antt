@@ -21,9 +21,7 @@ held_readable (Some Do ∷ places) (Some Do ∷ others) keys twins e =
 held_readable _ _ keys twins e = grind arith
 
 pub atomic_codes : IsInjective atomic_code
-atomic_codes a b e =
-    let same = held_readable a.places b.places a.keys b.keys e in
-    λ i. record { keys = same.1 i; places = same.0 i }
+atomic_codes a b e = grind (arith, held_readable a.places b.places a.keys b.keys e)
 
 -- there are no numbers to leave out: the bytes of the form determine the keys and what the threads hold
 pub atomic_tells : TellsWholly (λ keys held. atomic_code (atomic_form keys held))

@@ -1,5 +1,5 @@
 -- Canonical forms are equal exactly where the cells can be paired.
-use Rattle.std.proofs.Common.{◌≡◌, ℕ, zero, suc, ◌+◌, ◌↔◌, List, [], ◌∷◌, map, length, refl, sym, ◌∙◌, ap}
+use Rattle.std.proofs.Common.{◌≡◌, ℕ, zero, suc, ◌+◌, ◌↔◌, List, [], ◌∷◌, map, length, refl, ◌∙◌, ap}
 use Rattle.std.proofs.Common.{arith, add_comm}
 use Rattle.std.specs.Prelude.{slice_get, Option, Some, None}
 use Rattle.std.specs.List.{AllZip, zip}
@@ -121,5 +121,4 @@ pub answer_exactly : (cells others : List Content) (roots targets order : List �
     (answer ≡ canonical others targets) ↔ CanBePaired cells roots others targets
 answer_exactly cells others roots targets order answer e h rooted aimed l =
     let is = answer_is cells roots order answer e h in
-    let exactly = canonical_exactly cells others roots targets rooted aimed l in
-    (λ g. exactly.0 (sym is ∙ g), λ p. is ∙ exactly.1 p)
+    grind (arith, canonical_exactly cells others roots targets rooted aimed l)

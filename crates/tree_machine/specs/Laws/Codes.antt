@@ -34,8 +34,7 @@ cell_split c d xs ys e =
     let facts = facts_split c.facts d.facts (length c.refs) (length d.refs) _ _ (simp append_assoc at e) in
     let refs = each_readable number_code number_split (map reference_number c.refs) (map reference_number d.refs) xs ys
     (simp length-map facts.1) facts.2 in
-    let same = map_tells reference_number reference_same c.refs d.refs refs.0 in
-    (λ i. record { facts = facts.0 i; refs = same i }, refs.1)
+    grind (arith, map_tells reference_number reference_same c.refs d.refs)
 
 -- ---- parts
 
@@ -43,9 +42,7 @@ same_part : (p q : Part) → part_content p ≡ part_content q → p ≡ q
 same_part p q e =
     let f = ap (λ (c : Content). c.facts) e in
     let lengths : length p.nodes ≡ length q.nodes = cc in
-    let facts : p.facts ≡ q.facts = cc in
-    let names = halves p.nodes q.nodes p.records q.records lengths (ap (λ (c : Content). c.refs) e) in
-    λ i. record { facts = facts i; nodes = names.0 i; records = names.1 i }
+    grind (arith, halves p.nodes q.nodes p.records q.records lengths)
 
 -- equally many parts in front of other bytes
 parts_split : (ps qs : List Part) (xs ys : List ℕ) → length ps ≡ length qs → part_codes ps ++ xs ≡ part_codes qs ++ ys
@@ -85,23 +82,20 @@ parts_code_tells f g s t l e =
     let left =
     left_tells (drop f.nodes s.nodes) (drop f.records s.records) (drop g.nodes t.nodes) (drop g.records t.records)
     held.1 in
-    let nodes : s.nodes ≡ t.nodes =
-    cc (take-append-drop f.nodes s.nodes, take-append-drop g.nodes t.nodes, front.0, left.0) in
-    let records : s.records ≡ t.records =
-    cc (take-append-drop f.records s.records, take-append-drop g.records t.records, front.1, left.1) in
-    (λ i. record { nodes = nodes i; records = records i; held = held.0 i }, front.0, front.1)
+    grind (
+      arith,
+      take-append-drop f.nodes s.nodes,
+      take-append-drop g.nodes t.nodes,
+      take-append-drop f.records s.records,
+      take-append-drop g.records t.records,
+    )
 
 -- ---- states
 
 same_threads : {Place : Type 0} (a b : List (Thread Place)) → places_of a ≡ places_of b → replies_of a ≡ replies_of b
     → notes_of a ≡ notes_of b → a ≡ b
 same_threads [] [] places replies notes = refl
-same_threads (t ∷ a) (u ∷ b) places replies notes =
-    let place : t.place ≡ u.place = cc in
-    let reply : t.replies ≡ u.replies = cc in
-    let note : t.notes ≡ u.notes = cc in
-    let rest = same_threads a b (cc) (cc) (cc) in
-    λ i. record { replies = reply i; place = place i; notes = note i } ∷ rest i
+same_threads (t ∷ a) (u ∷ b) places replies notes = grind (arith, same_threads a b)
 same_threads _ _ places replies notes = cc
 
 -- equal bytes are of equal states, where those of memories and places held are of equal ones
@@ -110,17 +104,13 @@ pub state_codes_tell : {Machine Memory Place Form : Type 0} (code twin_code : Me
     → state_code code s ≡ state_code twin_code t → s ≡ t
 state_codes_tell code twin_code tells s t e =
     let pieces = state_pieces code s t.steps (state_content twin_code t) e in
-    let same = pieces.1 in
-    let replies = ap (λ (c : FormContent (List ℕ)). c.replies) same in
     let many : length (places_of s.threads) ≡ length (places_of t.threads) =
-    simp length-map (simp length-map at (ap length replies)) in
-    let form =
-    tells s.memory t.memory (places_of s.threads) (places_of t.threads) many
-    (ap (λ (c : FormContent (List ℕ)). c.form) same) in
-    let threads =
-    same_threads s.threads t.threads form.1 replies (ap (λ (c : FormContent (List ℕ)). c.notes) same) in
-    let astray = ap (λ (c : FormContent (List ℕ)). c.astray) same in
-    λ i. record { memory = form.0 i; threads = threads i; steps = pieces.0 i; astray = astray i }
+    simp length-map (simp length-map at (ap (λ (c : FormContent (List ℕ)). length c.replies) pieces.1)) in
+    grind (
+      arith,
+      tells s.memory t.memory (places_of s.threads) (places_of t.threads) many,
+      same_threads s.threads t.threads,
+    )
 
 pub state_code_tells : {Machine Memory Place Form : Type 0} (code : Memory → List (Option Place) → List ℕ)
     → TellsWholly code code → IsInjective (state_code {Machine = Machine} {Form = Form} code)
@@ -134,8 +124,7 @@ module _ {Memory Place : Type 0} (front_code : Front → Memory → List ℕ)
     (own_cut : (memory : Memory) (held : List (Option Place))
     → (front : Front) × (own_code memory held ≡ cut_code front_code behind_code front memory held)) where
   pub cut_tells : (front : Front) → TellsWholly (cut_code front_code behind_code front) own_code
-  cut_tells front memory other held others many e =
-      let w = own_cut other others in tells front w.0 memory other held others many (e ∙ w.1)
+  cut_tells front memory other held others many e = grind (arith, own_cut other others)
 
   pub own_tells : TellsWholly own_code own_code
   own_tells memory other held others many e =

@@ -1,5 +1,5 @@
 -- A state whose own bytes are the named code of another one is alike to that one, and fits the same program.
-use Rattle.std.proofs.Common.{◌≡◌, ℕ, zero, suc, List, ◌∷◌, map, length, sym, ◌∙◌, ap, refl}
+use Rattle.std.proofs.Common.{arith, ◌≡◌, ℕ, zero, suc, List, ◌∷◌, map, length, sym, ◌∙◌, ap, refl}
 use Rattle.std.specs.Prelude.{Option, Some, None, is_some, slice_get}
 use Rattle.std.specs.List.{AllZip}
 use Rattle.std.proofs.lemmas.List.{length-map}
@@ -29,8 +29,7 @@ twin_at : {A B C D : Type 0} (f : A → B) (g : A → C) (h : A → D) (P : D �
     → map f xs ≡ map f ys → map g xs ≡ map g ys → AllZip P (map h ys) (map h xs) → (t : ℕ) (x : A)
     → slice_get xs t ≡ Some x
     → (y : A) × (slice_get ys t ≡ Some y) × (f x ≡ f y) × (g x ≡ g y) × P (h y) (h x)
-twin_at f g h P (x ∷ xs) (y ∷ ys) e d z zero v at =
-    let same : x ≡ v = cc in rw (← same) (y, refl, cc, cc, z.0)
+twin_at f g h P (x ∷ xs) (y ∷ ys) e d z zero v at = grind arith
 twin_at f g h P (x ∷ xs) (y ∷ ys) e d z (suc t) v at = twin_at f g h P xs ys (cc) (cc) z.1 t v at
 twin_at f g h P _ _ e d z t v at = cc
 

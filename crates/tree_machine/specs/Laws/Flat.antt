@@ -18,9 +18,7 @@ digits_split (suc k) (suc l) r s xs ys h g e = grind (arith, digits_split k l r 
 -- a number in bytes in front of others, end to end
 pub number_read : (n m : ℕ) (xs ys : List ℕ) → replicate (n / 255) 255 ++ (n % 255) ∷ xs
     ≡ replicate (m / 255) 255 ++ (m % 255) ∷ ys → (n ≡ m) × (xs ≡ ys)
-number_read n m xs ys e =
-    let split = digits_split (n / 255) (m / 255) (n % 255) (m % 255) xs ys (omega arith) (omega arith) e in
-    (omega arith, split.2)
+number_read n m xs ys e = grind (arith, digits_split (n / 255) (m / 255) (n % 255) (m % 255) xs ys)
 
 pub number_split : (n m : ℕ) (xs ys : List ℕ) → number_code n ++ xs ≡ number_code m ++ ys → (n ≡ m) × (xs ≡ ys)
 number_split n m xs ys e = number_read n m xs ys (simp append_assoc at e)

@@ -72,8 +72,7 @@ module _ {Form : Type 0} (code : Form → List ℕ) (readable : IsInjective code
       list_readable (list_code note_code) (list_readable note_code note_readable) a.notes b.notes (rest_of a)
       (rest_of b) replies.1 in
       let astray = astray_readable a.astray b.astray (code a.form) (code b.form) notes.1 in
-      let form = readable a.form b.form astray.1 in
-      λ i. record { form = form i; replies = replies.0 i; notes = notes.0 i; astray = astray.0 i }
+      grind (arith, readable a.form b.form)
 
   -- comparing bytes returns what comparing the forms returns
   pub content_same : (E : FormContent Form → FormContent Form → Bool) → IsExact E → IsEquivalence E

@@ -104,10 +104,7 @@ module _ (fixed : ℕ) (front : Front) (t : Parts) (h : ArePartsInRange fixed t)
 
   -- the front counts what is met
   pub front_is : canonical_front fixed t ≡ front
-  front_is =
-      let nodes = ap length m.nodes ∙ length-numbers_from 0 front.nodes in
-      let records = ap length m.records ∙ length-numbers_from 0 front.records in
-      λ i. record { nodes = nodes i; records = records i }
+  front_is = grind (arith, m.nodes, m.records, length-numbers_from 0 front.nodes, length-numbers_from 0 front.records)
 
   -- there are at least as many parts as the front counts
   front_within : (front.nodes ≤ length t.nodes) × (front.records ≤ length t.records)
@@ -201,10 +198,7 @@ read_in_order fixed front s other twins range many e =
     let within = front_within fixed cf canonical (canonical_in_range fixed other range) met in
     let nodes = ap length stated.1 ∙ length-take-le cf.nodes canonical.nodes within.0 in
     let records = ap length stated.2 ∙ length-take-le cf.records canonical.records within.1 in
-    record {
-      nodes = (λ i. front_nodes fixed (stated.0 i)) ∙ met.nodes ∙ ap (numbers_from 0) (sym nodes);
-      records = (λ i. front_records fixed (stated.0 i)) ∙ met.records ∙ ap (numbers_from 0) (sym records);
-    }
+    grind arith
 
 -- behind the front that stays, the rest of the canonical parts completes their code
 pub canonical_completes : (fixed : ℕ) (front : Front) (s : Parts) → ArePartsInRange fixed s
@@ -214,8 +208,7 @@ canonical_completes fixed front s range met =
     let own =
     front_own fixed (cut_front front s) s range met
     ∙ (λ i. graph_code (take_cut front.nodes s.nodes i) (take_cut front.records s.records i)) in
-    let is = front_is fixed (cut_front front s) s range met in
-    λ i. sym own i ++ behind_code (sym is i) (canonical_parts fixed s)
+    cc (own, front_is fixed (cut_front front s) s range met)
 
 -- where all come in front, only what the threads hold comes behind
 pub behind_all : (fixed : ℕ) (front : Front) (s : Parts) → ArePartsInRange fixed s
@@ -226,4 +219,4 @@ behind_all fixed front s range met all_nodes all_records =
     let own = canonical_own fixed (cut_front front s) s range met all_nodes all_records in
     let left : part_codes s.held ≡ behind_code (cut_front front s) s =
     simp (all_nodes, all_records, drop-length, append-nil) in
-    left ∙ ap (behind_code (cut_front front s)) (sym own)
+    cc

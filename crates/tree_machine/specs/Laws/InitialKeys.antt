@@ -48,14 +48,9 @@ module _ (before after : ℕ → Option Shape) (key : ℕ) (end : End) (put : Is
         → IsNodeOrdered (IsOrderedWithin before levels) low high shape
         → IsOrderedWithin after (suc (suc levels)) low high x
     frame_at levels f low high x out None e o = absurd o
-    frame_at levels f low high x out (Some (Leaf k)) e o =
-        of_node after (suc levels) low high x _ (kept x (Leaf k) e (λ same. cc)) o
+    frame_at levels f low high x out (Some (Leaf k)) e o = grind arith
     frame_at levels f low high x out (Some (Internal m l r)) e o =
-        let a = apart before levels low (min m high) l o.0 in
-        let b = apart before levels (max m low) high r o.1 in
-        of_node after (suc levels) low high x _
-        (kept x (Internal m l r) e (λ same. let k : kp ≡ m = cc in out (omega arith) (omega arith)))
-        (f low (min m high) l (λ p q. out p (omega arith)) o.0, f (max m low) high r (λ p q. out (omega arith) q) o.1)
+        grind (arith, apart before levels low (min m high) l o.0, apart before levels (max m low) high r o.1)
 
     -- what lies apart from the parent stays in order, within one level more
     frame : (levels low high x : ℕ) → (low < kp → kp < high → ⊥) → IsOrderedWithin before levels low high x
@@ -117,7 +112,6 @@ module _ (before after : ℕ → Option Shape) (key : ℕ) (end : End) (put : Is
     descend (suc n) low high parent x m l r e o from under ends =
         let a = apart before (suc n) low (min m high) l o.0 in
         let b = apart before (suc n) (max m low) high r o.1 in
-        let inside : (low < m) × (m < high) = omega arith in
         let on = sym (end_below before key (suc n) parent x m l r e) ∙ ends in
         elim (leb_tells (suc key) m) [
           | inl t ↦ grown_by n low high x m low (min m high) l (λ c. c) (λ c. r) (descend n) e

@@ -145,8 +145,7 @@ module _ (n : ℕ) (order : List ℕ) where
 
     pub record_has : (y : ℕ) → Has (records_met n r order) y → Has order (n + y) × (y < r)
     record_has y h =
-        let k = filter_has (is_record n r) order (n + y) (sym (lowered_any n _ y kept_behind) ∙ h) in
-        (k.0, omega (arith, record_test n r (n + y) k.1))
+        grind (arith, nat_tests, filter_has (is_record n r) order (n + y) (sym (lowered_any n _ y kept_behind) ∙ h))
 
     pub has_record : (y : ℕ) → Has order (n + y) → y < r → Has (records_met n r order) y
     has_record y h l =

@@ -1,7 +1,7 @@
 -- What is in range is paired with itself, and what is paired throughout is in range, so that accesses, which keep
 -- pairings, keep the numbers in range.
 use Rattle.std.specs.Prelude.{◌≡◌, ℕ, zero, suc, ◌<◌, ◌≤◌, List, [], ◌∷◌, ◌++◌, length, Option}
-use Rattle.std.specs.Prelude.{Some, None, IfSome, All, refl, true, false, if◌then◌else◌, nat_lt}
+use Rattle.std.specs.Prelude.{Some, None, IfSome, All, refl}
 use Rattle.std.specs.List.{AllZip}
 use Rattle.std.proofs.Common.{arith, inl, inr, length-append}
 use Rattle.std.proofs.lemmas.Bool.{cases_lt}
@@ -39,10 +39,7 @@ among_self zero x y h = absurd h
 among_self (suc n) x y h = grind (arith, among_self n x y)
 
 selves_one : (n : ℕ) → IsOneToOne (IsAmong (selves n))
-selves_one n x y a b p q =
-    let here = among_self n x y p in
-    let there = among_self n a b q in
-    (λ c. cc, λ c. cc)
+selves_one n x y a b p q = grind (arith, among_self n x y p, among_self n a b q)
 
 selves_within : (n x y : ℕ) → IsAmong (selves n) x y → (x < n) × (y < n)
 selves_within n x y p = omega (arith, among_self n x y p)
@@ -166,10 +163,7 @@ module _ (P : ℕ → ℕ → Type 0) (shapes others : ℕ → Option Shape)
   down_paired below other f here there e None None h = e
   down_paired below other f here there e (Some (shape.Leaf i)) (Some (shape.Leaf j)) h = e
   down_paired below other f here there e (Some (shape.Internal i l r)) (Some (shape.Internal j m s)) h =
-      rw h.0 (elim (nat_lt k j) as (λ b. AreEndsPaired (below (if b then l else r)) (other (if b then m else s))) [
-        | true ↦ f l m h.1
-        | false ↦ f r s h.2
-      ])
+      grind arith
   down_paired below other f here there e _ _ h = absurd h
 
   pub ends_paired : (levels parent above x y : ℕ) → P parent above → P x y
@@ -244,4 +238,4 @@ module _ {Memory Place : Type 0} where
       whole_in_range q after.0 after.0 now now s.1 s.0.memories_paired
       (outcome_paired (rules.pairs.places q) after.1 s.0.outcomes_paired, (more, tt)) in
       let places = recursion_from_All (IsIn after.0) now kept.1 in
-      (kept.0, outcome_in rules after.0 after.1 places.0, places.1.0)
+      grind (arith, outcome_in rules after.0 after.1 places.0)

@@ -128,10 +128,6 @@ or_none_weaker P Q h None None p = tt
 or_none_weaker P Q h (Some x) (Some y) p = h x y p
 or_none_weaker P Q h _ _ p = absurd p
 
-held_behind : (s : Parts) (i : ℕ) → i < length s.held
-    → content_at (all_cells s) (length s.nodes + length s.records + i) ≡ part_cell (length s.nodes) (part_at s.held i)
-held_behind s i l = ap (λ n. content_at (all_cells s) (n + i)) (sym (length-parts_graph s)) ∙ held_at s i l
-
 part_from_zip : (Q : Part → Part → Type 0) (ps qs : List Part) → AllZip Q ps qs → (i : ℕ) → i < length ps
     → Q (part_at ps i) (part_at qs i)
 part_from_zip Q ps qs z i l =
@@ -160,9 +156,7 @@ module _ (P R : ℕ → ℕ → Type 0) (s t : Parts) where
     held_long = length_all_zip (ArePartsPaired P R) s.held t.held h.held_paired
 
     paired_one : IsOneToOne Paired
-    paired_one =
-        let one_place : IsOneToOne (λ i j. (i ≡ j) × (i < length s.held)) = λ x y v w p q. (λ e. cc, λ e. cc) in
-        below_or_behind_one _ _ P _ h.nodes_one_to_one (below_or_behind_one _ _ R _ h.records_one_to_one one_place)
+    paired_one = grind arith
 
     paired_range : (x y : ℕ) → Paired x y → (x < length (all_cells s)) × (y < length (all_cells t))
     paired_range x y p = grind (arith, length-cells s, length-cells t, held_long)
@@ -193,9 +187,9 @@ module _ (P R : ℕ → ℕ → Type 0) (s t : Parts) where
         rw (← e, ← f, record_at s _ i, record_at t _ j) (cells_paired _ _ (h.records_paired _ _ p))
     paired_cells x y (inr (l, k, inr (g, j, p))) =
         let a = x - length s.nodes - length s.records in
-        let e : length s.nodes + length s.records + a ≡ x = omega arith in
-        let f : length t.nodes + length t.records + a ≡ y = omega arith in
-        rw (← e, ← f, held_behind s a p.1, held_behind t a (omega (arith, held_long)))
+        let e : length (parts_graph s) + a ≡ x = omega (arith, length-parts_graph s) in
+        let f : length (parts_graph t) + a ≡ y = omega (arith, length-parts_graph t) in
+        rw (← e, ← f, held_at s a p.1, held_at t a (omega (arith, held_long)))
         (cells_paired _ _ (part_from_zip (ArePartsPaired P R) s.held t.held h.held_paired a p.1))
 
     -- paired parts are paired cells, from all roots that are paired

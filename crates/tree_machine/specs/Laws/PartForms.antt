@@ -1,6 +1,6 @@
 -- A machine whose memory and places are in parts: its forms are exact, and its codes tell and decode what they are of.
 use Rattle.std.specs.Prelude.{◌≡◌, ◌↔◌, ℕ, List, length, Option}
-use Rattle.std.proofs.Common.{sym, ◌∙◌}
+use Rattle.std.proofs.Common.{arith, sym, ◌∙◌}
 use Rattle.tree_machine.specs.Canonical.{canonical_code}
 use Rattle.tree_machine.specs.Flat.{parts_code}
 use Rattle.tree_machine.specs.FormCode.{TellsWholly}
@@ -40,8 +40,7 @@ module _ {Memory Place : Type 0} (parts : Memory → List (Option Place) → Par
         let codes =
         canonical_codes_exactly fixed _ _ (in_range memory held h places) (in_range other others k other_places)
         (same_count memory other held others many) in
-        let alike = exactly memory other held others in
-        ((λ e. alike.0 (codes.0 e)), (λ a. codes.1 (alike.1 a)))
+        grind (arith, codes, exactly memory other held others)
 
     pub parts_decode : ((memory : Memory) (held : List (Option Place)) → ArePartsInRange fixed (parts memory held)
         → rules.IsInRange memory × ArePlacesInRange rules memory held) → (front : Front)

@@ -1,11 +1,11 @@
 -- Parts that are renamed by nodes and records: paired with those they come from, in range, and the same where these
 -- are paired.
-use Rattle.std.proofs.Common.{◌≡◌, ℕ, ◌<◌, ◌≤◌, List, [], ◌∷◌, map, length, refl, ap, arith, get_or}
+use Rattle.std.proofs.Common.{◌≡◌, ℕ, ◌<◌, ◌≤◌, List, [], ◌∷◌, map, length, refl, ap, get_or}
 use Rattle.std.specs.Prelude.{slice_get, Option, Some, None, nat_eq, IfSome}
 use Rattle.std.specs.List.{AllZip, All, AllByRecursion, IsDistinct, zip}
 use Rattle.std.specs.Option.{option_and_then}
 use Rattle.std.proofs.lemmas.List.{length-map}
-use Rattle.std.proofs.lemmas.List.Elements.{All-map, recursion_from_All}
+use Rattle.std.proofs.lemmas.List.Elements.{All-map}
 use Rattle.std.proofs.lemmas.Option.{slice_get-map, slice_get_within}
 use Rattle.tree_machine.specs.Cells.{place_in}
 use Rattle.tree_machine.specs.Pairing.{IsAmong}
@@ -14,7 +14,6 @@ use Rattle.tree_machine.specs.Parts.{Part, Parts, part_at, ArePartsPaired, IsPar
 use Rattle.tree_machine.specs.Canonical.{renamed_part, parts_by}
 use Rattle.tree_machine.specs.Laws.Cells.{map_paired, unmap, refs_from_renamed}
 use Rattle.tree_machine.specs.Laws.CellOrder.{Has, HasAll, Extends, all_has, get_extends}
-use Rattle.tree_machine.specs.Laws.CellLists.{numbers_all}
 use Rattle.tree_machine.specs.Laws.CellPlaces.{refs_renamed, get_place, has_at, among_at, at_among, rel_among, zip_one}
 use Rattle.tree_machine.specs.Laws.MetLists.{own_number, places, among_places, places_among, places_one, refs_placed}
 
@@ -58,10 +57,9 @@ pair_range n m xs ys below above x y p =
 
 place_range : (n : ℕ) (f : ℕ → Part) (xs : List ℕ) → AllByRecursion (λ x. x < n) xs → (x y : ℕ)
     → IsAmong (places xs) x y → (x < n) × (y < length (map f xs))
-place_range n f xs below =
-    pair_range n _ xs _ below
-    (recursion_from_All _ _
-    (numbers_all (λ y. y < length (map f xs)) 0 (length xs) (λ y l k. rw length-map (omega arith))))
+place_range n f xs below x y p =
+    let at = places_among xs x y p in
+    (all_has (λ x. x < n) xs below x (has_at xs y x at), rw length-map (slice_get_within xs y x at))
 
 module _ (nodes records : List ℕ) where
   part_paired : (p : Part) → IsPartMet nodes records p
@@ -124,10 +122,9 @@ pub by_same : (P R : ℕ → ℕ → Type 0) (fixed : ℕ) (s t : Parts) (nodes 
 by_same P R fixed s t nodes records others targets h z w =
     let same : (a b : Part) → ArePartsPaired P R a b → renamed_part nodes records a ≡ renamed_part others targets b =
     λ a b p.
-    let facts = p.facts in
     let first = refs_renamed P h.nodes_one_to_one nodes others z a.nodes b.nodes p.nodes in
     let then = refs_renamed R h.records_one_to_one records targets w a.records b.records p.records in
-    λ i. record { facts = facts i; nodes = first i; records = then i } in
+    λ i. record { facts = p.facts i; nodes = first i; records = then i } in
     let first = map_paired P _ _ (λ x y p. same _ _ (h.nodes_paired x y p)) nodes others z in
     let then = map_paired R _ _ (λ x y p. same _ _ (h.records_paired x y p)) records targets w in
     let last = map_paired (ArePartsPaired P R) _ _ same s.held t.held h.held_paired in

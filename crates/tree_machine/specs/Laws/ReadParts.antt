@@ -1,6 +1,6 @@
 -- Values that were read from the code of their parts, one behind the other.
 use Rattle.std.proofs.Common.{◌≡◌, ℕ, zero, suc, ◌+◌, ◌<◌, List, [], ◌∷◌, ◌++◌, length, map, take, drop, refl}
-use Rattle.std.proofs.Common.{sym, ap, append_assoc, append-nil, arith}
+use Rattle.std.proofs.Common.{ap, append_assoc, append-nil, arith}
 use Rattle.std.proofs.Math.Seq.{map-set_same}
 use Rattle.std.specs.Prelude.{Option, slice_index_or, slice_set}
 use Rattle.std.specs.List.{flat_map}
@@ -16,10 +16,6 @@ drop_none zero = refl
 drop_none (suc n) = refl
 
 module _ {X : Type 0} (f : X → Part) where
-  one_more_code : (xs : List X) (x : X)
-      → part_codes (map f (xs ++ x ∷ [])) ≡ part_codes (map f xs) ++ cell_code (part_content (f x))
-  one_more_code xs x = simp (map-append, flat_map-append, append-nil)
-
   -- one value more is read
   pub one_read : (old more : List X) (x : X) (count : ℕ) (items after : List X) (bytes rest behind : List ℕ)
       → items ≡ old ++ more → length more ≡ count → bytes ≡ part_codes (map f more) ++ rest
@@ -30,7 +26,7 @@ module _ {X : Type 0} (f : X → Part) where
     more ++ x ∷ [],
     rw (a, e, append_assoc),
     rw (length_push, l),
-    rw (b, r, one_more_code more x) (sym (append_assoc (part_codes (map f more)) _ behind)),
+    rw (b, r) (simp (map-append, flat_map-append, append-nil, append_assoc)),
   )
 
   -- all that was read comes in front

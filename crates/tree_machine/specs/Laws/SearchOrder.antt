@@ -12,8 +12,7 @@ module _ (shapes : ℕ → Option Shape) where
       → low < high
   apart_node levels f low high None o = absurd o
   apart_node levels f low high (Some (Leaf k)) o = omega arith
-  apart_node levels f low high (Some (Internal m l r)) o =
-      omega (arith, f low (min m high) l o.0, f (max m low) high r o.1)
+  apart_node levels f low high (Some (Internal m l r)) o = grind arith
 
   -- what is in order has a key between its bounds
   pub apart : (levels low high x : ℕ) → IsOrderedWithin shapes levels low high x → low < high
@@ -49,14 +48,11 @@ module _ (shapes : ℕ → Option Shape) where
   below (suc levels) low high x shape e o = (levels, to_node levels low high x shape e o)
 
   pub none_is_ordered : (low high x : ℕ) → shapes x ≡ None → IsOrdered shapes low high x ↔ ⊥
-  none_is_ordered low high x e = ((λ o. (below o.levels low high x None e o.within).1), (λ o. absurd o))
+  none_is_ordered low high x e = grind arith
 
   pub leaf_is_ordered : (low high x k : ℕ) → shapes x ≡ Some (Leaf k) → IsOrdered shapes low high x
       ↔ ((low ≤ k) × (k < high))
-  leaf_is_ordered low high x k e = (
-    (λ o. (below o.levels low high x (Some (Leaf k)) e o.within).1),
-    (λ o. record { levels = 1; within = of_node 0 low high x (Some (Leaf k)) e o }),
-  )
+  leaf_is_ordered low high x k e = grind arith
 
   pub internal_is_ordered : (low high x m l r : ℕ) → shapes x ≡ Some (Internal m l r) →
       IsOrdered shapes low high x ↔ ((low < m) × (m < high) × IsOrdered shapes low m l × IsOrdered shapes m high r)

@@ -1,5 +1,6 @@
 -- Memories whose paired nodes are seen alike keep search order, or neither does.
-use Rattle.std.specs.Prelude.{◌≡◌, ◌↔◌, ℕ, zero, suc, min, max, Option, Some, None}
+use Rattle.std.specs.Prelude.{◌≡◌, ◌↔◌, ℕ, zero, suc, Option, Some, None}
+use Rattle.std.proofs.Common.{arith}
 use Rattle.tree_machine.specs.declared.search_order.Shape.{Shape}
 use Rattle.tree_machine.specs.declared.search_order.Shape.TheVariants.{Leaf, Internal}
 use Rattle.tree_machine.specs.SearchOrder.{IsNodeOrdered, IsOrderedWithin, KeepsSearchOrder}
@@ -16,13 +17,8 @@ module _ (P : ℕ → ℕ → Type 0) where
       → (low high : ℕ) (a b : Option Shape) → AreShapesPaired P a b
       → IsNodeOrdered A low high a ↔ IsNodeOrdered B low high b
   node_order A B below low high None None h = ((λ o. o), (λ o. o))
-  node_order A B below low high (Some (Leaf k)) (Some (Leaf j)) h = (λ o. rw (← h) o, λ o. rw h o)
-  node_order A B below low high (Some (Internal k l r)) (Some (Internal j m s)) h =
-      let left = below low (min k high) l m h.1 in
-      let right = below (max k low) high r s h.2 in (
-        (λ o. rw (← h.0) (left.0 o.0, right.0 o.1)),
-        (λ o. let p = rw (← h.0) at o in (left.1 p.0, right.1 p.1)),
-      )
+  node_order A B below low high (Some (Leaf k)) (Some (Leaf j)) h = grind arith
+  node_order A B below low high (Some (Internal k l r)) (Some (Internal j m s)) h = grind arith
   node_order A B below low high _ _ h = absurd h
 
   module _ (shapes others : ℕ → Option Shape) (seen : (x y : ℕ) → P x y → AreShapesPaired P (shapes x) (others y)) where
