@@ -8,6 +8,7 @@ use Rattle.std.proofs.lemmas.List.{length-map}
 use Rattle.std.proofs.lemmas.List.Elements.{recursion_from_All, All-from_recursion}
 use Rattle.std.proofs.lemmas.List.Folds.{list_any-append}
 use Rattle.std.proofs.Math.Bool.{or-true}
+use Rattle.std.proofs.lemmas.Bool.Decides.{nat_tests}
 use Rattle.tree_machine.specs.Cells.{content_at, IsRooted, order_of}
 use Rattle.tree_machine.specs.Pairing.{IsAmong}
 use Rattle.tree_machine.specs.Graphs.{numbers_from}
@@ -24,7 +25,7 @@ use Rattle.tree_machine.specs.Laws.PartCells.{all_cells, all_parts, part_all, le
 use Rattle.tree_machine.specs.Laws.PartCells.{record_at, held_at, cells_rooted, graph_rooted}
 use Rattle.tree_machine.specs.Laws.Graphs.{length-numbers_from}
 use Rattle.tree_machine.specs.Laws.MetLists.{number_at, places, nodes_below, records_below, nodes_first, records_first}
-use Rattle.tree_machine.specs.Laws.MetLists.{nodes_distinct, node_has, has_node}
+use Rattle.tree_machine.specs.Laws.MetLists.{filter_distinct, node_has, has_node}
 use Rattle.tree_machine.specs.Laws.MetLists.{records_distinct, record_has, has_record}
 use Rattle.tree_machine.specs.Laws.PartsBy.{IsPartMet, AreMet, by_paired, by_in_range}
 
@@ -36,11 +37,9 @@ names_met : (n r : ℕ) (order : List ℕ) (ns rs : List (Option ℕ)) → RefsB
     → HasAll (nodes_met n order) ns × HasAll (records_met n r order) rs
 names_met n r order [] [] l k h = (tt, tt)
 names_met n r order [] (None ∷ rs) l k h = names_met n r order [] rs l k.1 h
-names_met n r order [] (Some y ∷ rs) l k h =
-    (tt, (has_record n order r y h.0 k.0, (names_met n r order [] rs l k.1 h.1).1))
+names_met n r order [] (Some y ∷ rs) l k h = grind (arith, names_met n r order [] rs l k.1 h.1, has_record n order r y)
 names_met n r order (None ∷ ns) rs l k h = names_met n r order ns rs l.1 k h
-names_met n r order (Some x ∷ ns) rs l k h =
-    let rest = names_met n r order ns rs l.1 k h.1 in ((has_node n order x h.0 l.0, rest.0), rest.1)
+names_met n r order (Some x ∷ ns) rs l k h = grind (arith, names_met n r order ns rs l.1 k h.1, has_node n order x)
 
 -- the nodes and the records of an order of cells
 abbrev nodes_of : Parts → List ℕ → List ℕ
@@ -58,17 +57,11 @@ roots_behind s nodes records =
 first_nodes : (s : Parts) (order nodes records behind : List ℕ)
     → order ≡ as_cells (length s.nodes) nodes records ++ behind → AllByRecursion (λ x. x < length s.nodes) nodes
     → Extends nodes (nodes_of s order)
-first_nodes s order nodes records behind is below = record {
-  rest = nodes_of s behind;
-  is = ap (nodes_of s) is ∙ nodes_first _ (length s.records) nodes records _ below;
-}
+first_nodes s order nodes records behind is below = grind (arith, nat_tests, nodes_first)
 
 -- what is met is in range
 met_distinct_in : {n : ℕ} (xs : List ℕ) → IsDistinct nat_eq xs → AllByRecursion (λ x. x < n) xs → AreDistinctIn 0 n xs
-met_distinct_in {n} xs distinct below = record {
-  distinct = distinct;
-  within = λ k d l. omega (arith, All-from_recursion (λ x. x < n) xs below k d l);
-}
+met_distinct_in {n} xs distinct below = grind (arith, nat_tests, All-from_recursion)
 
 module _ (fixed : ℕ) (s : Parts) (h : ArePartsInRange fixed s) where
   -- what a walk meets names only what it meets
@@ -84,13 +77,14 @@ module _ (fixed : ℕ) (s : Parts) (h : ArePartsInRange fixed s) where
         (recursion_from_All _ _ b.nodes) (recursion_from_All _ _ b.records)
         (rw e at (order_closed (all_cells s) roots rooted k.0 x (get_place order x k.0 k.1)))
 
-    order_met : Extends (numbers_from 0 fixed) (nodes_of s order) → AreMet fixed s (nodes_of s order) (records_of s order)
+    order_met : Extends (numbers_from 0 fixed) (nodes_of s order)
+        → AreMet fixed s (nodes_of s order) (records_of s order)
     order_met first =
         let n = length s.nodes in
         let r = length s.records in
         let distinct = (met_in_order (all_cells s) roots rooted (length (all_cells s))).distinct in
         record {
-          nodes_distinct = nodes_distinct n order distinct;
+          nodes_distinct = filter_distinct _ order distinct;
           records_distinct = records_distinct n order r distinct;
           nodes_below = nodes_below n order;
           records_below = records_below n order r;
@@ -160,10 +154,7 @@ module _ (fixed : ℕ) (s : Parts) (h : ArePartsInRange fixed s) where
 
     pub records_extended : Extends records
         (records_met (length s.nodes) (length s.records) (order_behind nodes records s))
-    records_extended = record {
-      rest = _;
-      is = ap (records_of s) begins ∙ records_first _ _ nodes records _ met.nodes_below met.records_below;
-    }
+    records_extended = grind (arith, nat_tests, begins, records_first)
 
     behind_met : AreMet fixed s (nodes_of s all) (records_of s all)
     behind_met =

@@ -1,11 +1,11 @@
 -- Canonical parts of two states.
-use Rattle.std.proofs.Common.{◌≡◌, ℕ, ◌+◌, ◌-◌, ◌<◌, ◌↔◌, List, length, refl, arith}
+use Rattle.std.proofs.Common.{◌≡◌, ℕ, ◌-◌, ◌↔◌, List, length, refl, arith}
 use Rattle.std.specs.List.{AllZip, zip}
 use Rattle.std.proofs.lemmas.Bool.Decides.{nat_tests}
 use Rattle.std.proofs.lemmas.List.{length-map}
 use Rattle.tree_machine.specs.Pairing.{IsAmong}
 use Rattle.tree_machine.specs.Graphs.{numbers_from}
-use Rattle.tree_machine.specs.Parts.{Parts, IsPartsPairing, ArePartsInRange, parts_graph, parts_held, CanPartsBePaired}
+use Rattle.tree_machine.specs.Parts.{Parts, IsPartsPairing, ArePartsInRange, parts_held, CanPartsBePaired}
 use Rattle.tree_machine.specs.Canonical.{nodes_met, records_met, front_order, front_nodes, front_records}
 use Rattle.tree_machine.specs.Canonical.{parts_order, met_nodes, met_records, canonical_parts}
 use Rattle.tree_machine.specs.Laws.Cells.{AllZip-weaker, orders_paired}
@@ -35,11 +35,7 @@ module _ (P R : ℕ → ℕ → Type 0) (fixed : ℕ) (s t : Parts) (h : ArePart
       → AllZip P (nodes_met (length s.nodes) xs) (nodes_met (length t.nodes) ys)
       × AllZip R (records_met (length s.nodes) (length s.records) xs)
       (records_met (length t.nodes) (length t.records) ys)
-  split_pairs xs ys z = (
-    filter_zip (Paired P R s t) P _ _ nodes_apart xs ys z,
-    map_zip R (λ x. x - length s.nodes) (λ y. y - length t.nodes) _ _
-        (filter_zip (Paired P R s t) _ _ _ records_apart xs ys z),
-  )
+  split_pairs xs ys z = grind (arith, nat_tests, filter_zip, nodes_apart, map_zip, records_apart)
 
   -- what comes in front is paired, like by like
   pub fronts_paired : AllZip P (front_nodes fixed s) (front_nodes fixed t)
@@ -60,16 +56,17 @@ module _ (P R : ℕ → ℕ → Type 0) (fixed : ℕ) (s t : Parts) (h : ArePart
       let Q : ℕ → ℕ → Type 0 = Paired P R s t in
       let front = fronts_paired in
       let long : length (parts_held s) ≡ length (parts_held t) = simp length-map (held_long P R s t fixed p) in
-      zip_join Q _ _ _ _
-      (zip_join Q (front_nodes fixed s) (front_nodes fixed t) _ _
-      (AllZip-weaker P Q (paired_node P R s t fixed p) _ _ front.0)
-      (map_zip Q _ _ _ _
-      (AllZip-weaker R (λ x y. Q (length s.nodes + x) (length t.nodes + y)) (paired_record P R s t fixed p)
-      _ _ front.1)))
-      (numbers_zip Q (length (parts_graph s)) (length (parts_graph t)) (length (parts_held s)) _ long
-      (λ i x y l e f.
-      let within : i < length s.held = rw length-map at l in
-      grind (arith, length-parts_graph s, length-parts_graph t)))
+      grind (
+        arith,
+        length-map,
+        zip_join,
+        AllZip-weaker,
+        paired_node,
+        map_zip,
+        paired_record,
+        numbers_zip,
+        length-parts_graph,
+      )
 
   -- and so is all that is met
   pub same_from_pairing : canonical_parts fixed s ≡ canonical_parts fixed t

@@ -23,8 +23,7 @@ pub content_back : (xs ys : List Content) (i : ℕ) → content_at (xs ++ ys) (l
 content_back xs ys i = simp unwrap_or-slice_get (get_or-append-add xs ys i _)
 
 pub zip_join : {A B : Type 0} (P : A → B → Type 0) (xs : List A) (ys : List B) (us : List A) (vs : List B)
-    → AllZip P xs ys
-    → AllZip P us vs → AllZip P (xs ++ us) (ys ++ vs)
+    → AllZip P xs ys → AllZip P us vs → AllZip P (xs ++ us) (ys ++ vs)
 zip_join P [] [] us vs z w = w
 zip_join P (x ∷ xs) (y ∷ ys) us vs z w = (z.0, zip_join P xs ys us vs z.1 w)
 zip_join P _ _ us vs z w = absurd z
@@ -33,9 +32,7 @@ pub numbers_zip : (P : ℕ → ℕ → Type 0) (a b n m : ℕ) → n ≡ m
     → ((i x y : ℕ) → i < n → x ≡ a + i → y ≡ b + i → P x y) → AllZip P (numbers_from a n) (numbers_from b m)
 numbers_zip P a b zero zero many h = tt
 numbers_zip P a b (suc n) (suc m) many h =
-    let rest = numbers_zip P (suc a) (suc b) n m (omega arith) (λ i x y l e f. h (suc i) x y (omega arith)
-    (omega arith) (omega arith)) in
-    (h 0 a b (omega arith) (omega arith) (omega arith), rest)
+    (grind (arith, h 0 a b), numbers_zip P (suc a) (suc b) n m (omega arith) (λ i x y. grind (arith, h (suc i) x y)))
 numbers_zip P a b _ _ many h = absurd (omega arith)
 
 pub numbers_all : (P : ℕ → Type 0) (a n : ℕ) → ((x : ℕ) → a ≤ x → x < a + n → P x) → All P (numbers_from a n)
@@ -90,13 +87,11 @@ pub mapped_distinct : (P : ℕ → Type 0) (f : ℕ → ℕ) → ((x y : ℕ) �
     → AllByRecursion P xs → IsDistinct nat_eq xs → IsDistinct nat_eq (map f xs)
 unfolding IsDistinct
 mapped_distinct P f one [] a d = tt
-mapped_distinct P f one (x ∷ xs) a d = (
-  recursion_from_All _ _
-      (All-map (λ y. nat_eq (f x) y ≡ false) f xs (λ k c l.
-      same_tests (f x) x _ _ (one x _ a.0 (All-from_recursion P xs a.1 k c l), λ e. ap f e)
-      ∙ All-from_recursion (λ y. nat_eq x y ≡ false) xs d.0 k c l)),
-  mapped_distinct P f one xs a.1 d.1,
-)
+mapped_distinct P f one (x ∷ xs) a d =
+    let apart = λ (k : ℕ) (c : ℕ) (l : k < length xs).
+    same_tests (f x) x _ _ (one x _ a.0 (All-from_recursion P xs a.1 k c l), λ e. ap f e)
+    ∙ All-from_recursion (λ y. nat_eq x y ≡ false) xs d.0 k c l in
+    (recursion_from_All _ _ (All-map (λ y. nat_eq (f x) y ≡ false) f xs apart), mapped_distinct P f one xs a.1 d.1)
 
 -- and one whose numbers are all raised
 pub distinct_in_raised : (n r : ℕ) (xs : List ℕ) → AreDistinctIn 0 r xs → AreDistinctIn n (n + r) (map (λ x. n + x) xs)
@@ -118,11 +113,7 @@ module _ (graph held : List Content) (roots : List ℕ) (h : IsRooted graph root
 
   met_in_front : (n : ℕ) → met_in (graph ++ held) roots n ≡ met_in graph roots n
   met_in_front zero = refl
-  met_in_front (suc n) =
-      ap (λ o. visited (graph ++ held) o (slice_get o n)) (met_in_front n)
-      ∙ visited_front (met_in graph roots n) n (met_in_order graph roots h n) _ refl
+  met_in_front (suc n) = grind (arith, nat_tests, met_in_front n, visited_front, met_in_order)
 
   pub order_front : order_of (graph ++ held) roots ≡ order_of graph roots
-  order_front =
-      ap (met_in (graph ++ held) roots) (length-append graph held)
-      ∙ (met_in_front (length graph + length held) ∙ met_in_stable graph roots h (length held))
+  order_front = grind (arith, nat_tests, length-append, met_in_front, met_in_stable)

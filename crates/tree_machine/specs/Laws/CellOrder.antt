@@ -1,10 +1,10 @@
 -- The cells that a walk meets, in their order: distinct, in range, and closed.
 use Rattle.std.proofs.Common.{◌≡◌, ℕ, zero, suc, ◌+◌, ◌<◌, ◌≤◌, true, List, [], ◌∷◌, ◌++◌, length, refl, sym, ap}
-use Rattle.std.proofs.Common.{inl, inr, arith, append_assoc, add-suc, add-zero, get_or, append-nil}
+use Rattle.std.proofs.Common.{arith, append_assoc, add-suc, add-zero, get_or, append-nil}
 use Rattle.std.specs.Prelude.{slice_get, Option, Some, None, nat_eq, ⊤, IfSome}
 use Rattle.std.specs.Cmp.{IsEquivalence}
-use Rattle.std.specs.List.{list_any, All, AllByRecursion, IsDistinct}
-use Rattle.std.proofs.lemmas.Bool.{cases_eq, cases_lt, cond_both, eq-eqb}
+use Rattle.std.specs.List.{list_any, AllByRecursion, IsDistinct}
+use Rattle.std.proofs.lemmas.Bool.{cases_lt, cond_both, eq-eqb}
 use Rattle.std.proofs.lemmas.Bool.Decides.{nat_tests}
 use Rattle.std.proofs.lemmas.Cmp.{nat_eq_equiv}
 use Rattle.std.proofs.lemmas.List.Elements.{recursion_from_All, All-get_or}
@@ -61,14 +61,10 @@ get_extends {xs} e k x h = rw e.is (get_append xs e.rest k x h)
 -- ---- one more cell
 
 pub met_extends : (order : List ℕ) (x : ℕ) → Extends order (met order x)
-met_extends order x =
-    cond_both (list_any (nat_eq x) order) order _ (Extends order)
-    (λ _. extends_itself order) (λ _. record { rest = x ∷ []; is = refl })
+met_extends order x = grind (arith, nat_tests, cond_both, extends_itself)
 
 pub met_has : (order : List ℕ) (x : ℕ) → Has (met order x) x
-met_has order x =
-    cond_both (list_any (nat_eq x) order) order (order ++ x ∷ []) (λ o. Has o x)
-    (λ h. h) (λ h. simp (list_any-append, has_itself x, or-true))
+met_has order x = grind (arith, nat_tests, cond_both, list_any-append, has_itself, or-true)
 
 pub met_all_extends : (refs : List (Option ℕ)) (order : List ℕ) → Extends order (met_all order refs)
 met_all_extends [] order = extends_itself order
@@ -88,11 +84,7 @@ pub record IsOrder (n : ℕ) (order : List ℕ) : Type 0 where
   pub below : (x : ℕ) → Has order x → x < n
 
 pub met_order : (n : ℕ) (order : List ℕ) (x : ℕ) → x < n → IsOrder n order → IsOrder n (met order x)
-met_order n order x l h =
-    cond_both (list_any (nat_eq x) order) order _ (IsOrder n) (λ _. h) (λ e. record {
-      distinct = IsDistinct-push nat_equivalence order x h.distinct e;
-      below = λ y g. let had = h.below y in grind (arith, nat_tests, had, list_any-append (nat_eq y) order (x ∷ []));
-    })
+met_order n order x l h = grind (arith, nat_tests, cond_both, IsDistinct-push, nat_equivalence, list_any-append)
 
 -- each ref is none or below n
 abbrev pub RefsBelow : ℕ → List (Option ℕ) → Type 0
@@ -114,22 +106,9 @@ pub all_has : (P : ℕ → Type 0) (xs : List ℕ) → AllByRecursion P xs → (
 all_has P [] h x g = cc
 all_has P (y ∷ xs) h x g = grind (arith, nat_tests, h.0, all_has P xs h.1 x)
 
--- what holds of each one that is there holds of each element
-pub all_from_has : (P : ℕ → Type 0) (xs : List ℕ) → ((x : ℕ) → Has xs x → P x) → AllByRecursion P xs
-all_from_has P [] h = tt
-all_from_has P (x ∷ xs) h =
-    (h x (rw (has_itself x) refl), all_from_has P xs (λ y g. h y (grind (arith, nat_tests))))
-
 module _ (cells : List Content) (roots : List ℕ) (h : IsRooted cells roots) where
   refs_below : (x : ℕ) → RefsBelow (length cells) (content_at cells x).refs
-  refs_below x =
-      elim (cases_lt x (length cells)) [
-        | inl l ↦
-            recursion_from_All _ _
-            (rw unwrap_or-slice_get (All-get_or (λ c. All (λ r. IfSome r (λ x. x < length cells)) c.refs) cells x _ l
-            h.refs_in_range))
-        | inr l ↦ rw (slice_get_past cells x l) tt
-      ]
+  refs_below x = grind (arith, nat_tests, cases_lt, recursion_from_All, unwrap_or-slice_get, All-get_or, slice_get_past)
 
   visited_order : (order : List ℕ) (r : Option ℕ) → IsOrder (length cells) order
       → IsOrder (length cells) (visited cells order r)
@@ -172,10 +151,7 @@ visited_closed cells n order h (Some z) at k x l g =
     let far = slice_get_within order n z at in
     let there = slice_get-get_or order k x (omega arith) in
     let here : slice_get order k ≡ Some x = cc (there, get_extends more k (get_or order k x) there, g) in
-    elim (cases_eq k n) [
-      | inl e ↦ let same : z ≡ x = cc in rw (← same) (met_all_has (content_at cells z).refs order)
-      | inr other ↦ has_all_extends more (content_at cells x).refs (h k x (omega arith) here)
-    ]
+    grind (arith, h k x, has_all_extends more (content_at cells x).refs, met_all_has (content_at cells z).refs order)
 
 pub met_in_closed : (cells : List Content) (roots : List ℕ) (n : ℕ) → IsClosedBelow cells n (met_in cells roots n)
 met_in_closed cells roots zero = λ k x l. absurd (omega arith)

@@ -1,5 +1,5 @@
 -- Two walks over paired cells go in lock step.
-use Rattle.std.proofs.Common.{◌≡◌, ℕ, zero, suc, ◌↔◌, true, false, cond, List, [], ◌∷◌, ◌++◌, refl, arith}
+use Rattle.std.proofs.Common.{◌≡◌, ℕ, zero, suc, ◌↔◌, false, List, [], ◌∷◌, refl, arith}
 use Rattle.std.specs.Prelude.{slice_get, Option, Some, None, nat_eq}
 use Rattle.std.specs.List.{AllZip, list_any}
 use Rattle.std.proofs.lemmas.Bool.Decides.{nat_tests}
@@ -31,12 +31,7 @@ module _ (P : ℕ → ℕ → Type 0) (one : IsOneToOne P) where
   has_paired _ _ a b h p = absurd h
 
   met_paired : (xs ys : List ℕ) (a b : ℕ) → AllZip P xs ys → P a b → AllZip P (met xs a) (met ys b)
-  met_paired xs ys a b h p =
-      rw (← has_paired xs ys a b h p)
-      (elim (list_any (nat_eq a) xs) as (λ t. AllZip P (cond t xs (xs ++ a ∷ [])) (cond t ys (ys ++ b ∷ []))) [
-        | true ↦ h
-        | false ↦ AllZip-push P xs ys a b h p
-      ])
+  met_paired xs ys a b h p = grind (arith, has_paired xs ys a b h p, AllZip-push P xs ys a b h p)
 
   met_all_paired : (refs sefs : List (Option ℕ)) (xs ys : List ℕ) → AllZip P xs ys
       → AllZip (IsPairedOrNone P) refs sefs → AllZip P (met_all xs refs) (met_all ys sefs)

@@ -4,6 +4,7 @@ use Rattle.std.proofs.Common.{arith, add_comm}
 use Rattle.std.specs.Prelude.{slice_get, Option, Some, None}
 use Rattle.std.specs.List.{AllZip, zip}
 use Rattle.std.specs.Option.{option_and_then}
+use Rattle.std.proofs.lemmas.Bool.Decides.{nat_tests}
 use Rattle.tree_machine.specs.Cells.{Content, IsPairedOrNone, IsPairing, CanBePaired, IsRooted, met_in, content_at}
 use Rattle.tree_machine.specs.Cells.{place_in, renamed, order_of, canonical}
 use Rattle.tree_machine.specs.Pairing.{IsAmong}
@@ -35,10 +36,7 @@ module _ (P : ℕ → ℕ → Type 0) (cells others : List Content) (roots targe
   pub equal_from_pairing : canonical cells roots ≡ canonical others targets
   equal_from_pairing =
       map_paired P _ _
-      (λ x y p.
-      let facts = h.facts_equal x y p in
-      let refs = refs_renamed P h.one_to_one _ _ orders_paired _ _ (h.refs_paired x y p) in
-      λ i. record { facts = facts i; refs = refs i })
+      (λ x y p. cc (h.facts_equal x y p, refs_renamed P h.one_to_one _ _ orders_paired _ _ (h.refs_paired x y p)))
       (order_of cells roots) (order_of others targets) orders_paired
 
 -- ---- from equal results to a pairing
@@ -50,8 +48,7 @@ unmap f g (x ∷ xs) (y ∷ ys) e = (cc, unmap f g xs ys (cc))
 unmap f g _ _ e = cc
 
 pub AllZip-weaker : {A B : Type 0} (P Q : A → B → Type 0) → ((x : A) (y : B) → P x y → Q x y)
-    → (xs : List A) (ys : List B)
-    → AllZip P xs ys → AllZip Q xs ys
+    → (xs : List A) (ys : List B) → AllZip P xs ys → AllZip Q xs ys
 AllZip-weaker P Q h [] [] z = tt
 AllZip-weaker P Q h (x ∷ xs) (y ∷ ys) z = (h x y z.0, AllZip-weaker P Q h xs ys z.1)
 AllZip-weaker P Q h _ _ z = absurd z
@@ -105,10 +102,7 @@ module _ (cells others : List Content) (roots targets : List ℕ) (rooted : IsRo
 
   -- two results are equal exactly if some set of pairs is a pairing
   pub canonical_exactly : (canonical cells roots ≡ canonical others targets) ↔ CanBePaired cells roots others targets
-  canonical_exactly = (
-    λ e. (zip (order_of cells roots) (order_of others targets), pairing_from_equal e),
-    λ p. equal_from_pairing (IsAmong p.0) cells others roots targets rooted aimed p.1,
-  )
+  canonical_exactly = grind (arith, nat_tests, pairing_from_equal, equal_from_pairing)
 
 -- the answer of a walk that met this order
 pub answer_is : (cells : List Content) (roots order : List ℕ) (answer : List Content) → order ≡ order_of cells roots
@@ -120,5 +114,4 @@ pub answer_exactly : (cells others : List Content) (roots targets order : List �
     → IsRooted others targets → length roots ≡ length targets →
     (answer ≡ canonical others targets) ↔ CanBePaired cells roots others targets
 answer_exactly cells others roots targets order answer e h rooted aimed l =
-    let is = answer_is cells roots order answer e h in
-    grind (arith, canonical_exactly cells others roots targets rooted aimed l)
+    grind (arith, nat_tests, answer_is cells roots order answer e h, canonical_exactly)

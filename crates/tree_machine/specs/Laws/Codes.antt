@@ -1,8 +1,9 @@
 -- Bytes determine what they are of: nodes, records and what threads hold, and states.
 use Rattle.std.proofs.Common.{◌≡◌, ℕ, List, [], ◌∷◌, ◌++◌, map, length, take, drop}
-use Rattle.std.proofs.Common.{refl, sym, ◌∙◌, ap, arith, append_assoc, append-nil, length-append}
+use Rattle.std.proofs.Common.{refl, sym, ap, arith, append_assoc, append-nil, length-append}
 use Rattle.std.specs.Prelude.{Option, Some, None}
 use Rattle.std.proofs.lemmas.List.{length-map, take-append-drop}
+use Rattle.std.proofs.lemmas.Bool.Decides.{nat_tests}
 use Rattle.tree_machine.specs.Cells.{Content}
 use Rattle.tree_machine.specs.Parts.{Part, Parts}
 use Rattle.tree_machine.specs.Flat.{cell_code, graph_code, left_code, number_code, part_codes, part_content}
@@ -39,10 +40,7 @@ cell_split c d xs ys e =
 -- ---- parts
 
 same_part : (p q : Part) → part_content p ≡ part_content q → p ≡ q
-same_part p q e =
-    let f = ap (λ (c : Content). c.facts) e in
-    let lengths : length p.nodes ≡ length q.nodes = cc in
-    grind (arith, halves p.nodes q.nodes p.records q.records lengths)
+same_part p q e = grind (arith, nat_tests, ap (λ (c : Content). c.facts) e, halves)
 
 -- equally many parts in front of other bytes
 parts_split : (ps qs : List Part) (xs ys : List ℕ) → length ps ≡ length qs → part_codes ps ++ xs ≡ part_codes qs ++ ys
@@ -127,5 +125,4 @@ module _ {Memory Place : Type 0} (front_code : Front → Memory → List ℕ)
   cut_tells front memory other held others many e = grind (arith, own_cut other others)
 
   pub own_tells : TellsWholly own_code own_code
-  own_tells memory other held others many e =
-      let w = own_cut memory held in cut_tells w.0 memory other held others many (sym w.1 ∙ e)
+  own_tells memory other held others many e = grind (arith, nat_tests, own_cut memory held, cut_tells)

@@ -33,9 +33,8 @@ pub each_readable : {A : Type 0} (code : A → List ℕ) → IsReadable code →
     → length cs ≡ length ds → flat_map code cs ++ xs ≡ flat_map code ds ++ ys → (cs ≡ ds) × (xs ≡ ys)
 each_readable code readable [] [] xs ys l e = (refl, e)
 each_readable code readable (c ∷ cs) (d ∷ ds) xs ys l e =
-    let first = readable c d _ _ (simp (flat_map-cons code, append_assoc) at e) in
-    let rest = each_readable code readable cs ds xs ys (omega arith) first.1 in
-    (cc (first.0, rest.0), rest.1)
+    let bytes = simp (flat_map-cons code, append_assoc) at e in
+    grind (arith, readable c d _ _ bytes, each_readable code readable cs ds xs ys)
 each_readable code readable _ _ xs ys l e = absurd (omega arith)
 
 -- ---- facts
@@ -43,12 +42,7 @@ each_readable code readable _ _ xs ys l e = absurd (omega arith)
 -- the long code of facts and of how many references there are
 long_split : (fs gs : List ℕ) (r s : ℕ) (xs ys : List ℕ) → long_code fs r ++ xs ≡ long_code gs s ++ ys
     → (fs ≡ gs) × (r ≡ s) × (xs ≡ ys)
-long_split fs gs r s xs ys e =
-    let bytes = simp append_assoc at e in
-    let lengths = number_read (length fs) (length gs) _ _ (cc bytes) in
-    let refs = number_read r s _ _ lengths.1 in
-    let facts = each_readable number_code number_split fs gs xs ys lengths.0 refs.1 in
-    (facts.0, refs.0, facts.1)
+long_split fs gs r s xs ys e = grind (arith, nat_tests, append_assoc, number_read, each_readable, number_split)
 
 pub facts_split : (fs gs : List ℕ) (r s : ℕ) (xs ys : List ℕ) → facts_code fs r ++ xs ≡ facts_code gs s ++ ys
     → (fs ≡ gs) × (r ≡ s) × (xs ≡ ys)

@@ -3,8 +3,9 @@ use Rattle.std.specs.Prelude.{◌≡◌, ℕ, Bool, List, [], ◌∷◌, ◌++�
 use Rattle.std.specs.Prelude.{Some, None, nat_eq}
 use Rattle.std.specs.Cmp.{IsEquivalence}
 use Rattle.std.specs.Cmp.Lexicographic.{pointwise}
-use Rattle.std.proofs.Common.{◌+◌, refl, sym, ◌∙◌, ap, arith, append_assoc}
+use Rattle.std.proofs.Common.{◌+◌, refl, arith, append_assoc}
 use Rattle.std.proofs.lemmas.Cmp.{lists_equiv}
+use Rattle.std.proofs.lemmas.Bool.Decides.{nat_tests}
 use Rattle.sched_program.specs.Exact.{IsExact}
 use Rattle.sched_program.specs.Laws.Exact.{nat_exact, list_exact}
 use Rattle.tree_machine.specs.Laws.CellOrder.{nat_equivalence}
@@ -17,7 +18,7 @@ use Rattle.tree_machine.specs.Laws.Flat.{number_split, IsReadable, each_readable
 use Rattle.tree_machine.specs.Laws.Packed.{digits_of_number}
 use Rattle.tree_machine.specs.Laws.ShortNotes.{counts_of_number, number_below}
 use Rattle.tree_machine.specs.declared.state.State.{State}
-use Rattle.tree_machine.specs.Packed.{digits_of, replies_number}
+use Rattle.tree_machine.specs.Packed.{replies_number}
 
 -- what the bytes of a state are of, behind its steps
 abbrev pub state_content : {Machine Memory Place Form : Type 0} → (Memory → List (Option Place) → List ℕ)
@@ -32,16 +33,16 @@ state_content code s = record {
 list_readable : {A : Type 0} (code : A → List ℕ) → IsReadable code → IsReadable (list_code code)
 list_readable code readable cs ds xs ys e = each_readable code readable cs ds xs ys (cc) (cc)
 
-replies_injective : (a b : List Bool) → replies_number a ≡ replies_number b → a ≡ b
-replies_injective a b e =
-    let most = length a + length b in
-    sym (digits_of_number most a (omega arith)) ∙ ap (digits_of most) e ∙ digits_of_number most b (omega arith)
-
 replies_readable : IsReadable replies_code
 unfolding replies_code
 replies_readable a b xs ys e =
-    let parts = number_split (replies_number a) (replies_number b) xs ys e in
-    (replies_injective a b parts.0, parts.1)
+    let most = length a + length b in
+    grind (
+      arith,
+      number_split (replies_number a) (replies_number b) xs ys e,
+      digits_of_number most a,
+      digits_of_number most b,
+    )
 
 -- equal lists that are cut at one place have equal pieces
 pub halves : {A : Type 0} (xs us ys vs : List A) → length xs ≡ length us → xs ++ ys ≡ us ++ vs → (xs ≡ us) × (ys ≡ vs)
@@ -63,24 +64,13 @@ astray_readable _ _ xs ys e = grind arith
 module _ {Form : Type 0} (code : Form → List ℕ) (readable : IsInjective code) where
   pub content_readable : IsInjective (content_code code)
   content_readable a b e =
-      let rest_of = λ (c : FormContent Form). astray_code c.astray ++ code c.form in
-      let behind = λ (c : FormContent Form). list_code (list_code note_code) c.notes ++ rest_of c in
-      let replies =
-      list_readable replies_code replies_readable a.replies b.replies (behind a) (behind b)
-      (simp append_assoc at e) in
-      let notes =
-      list_readable (list_code note_code) (list_readable note_code note_readable) a.notes b.notes (rest_of a)
-      (rest_of b) replies.1 in
-      let astray = astray_readable a.astray b.astray (code a.form) (code b.form) notes.1 in
-      grind (arith, readable a.form b.form)
+      grind (arith, nat_tests, list_readable, replies_readable, append_assoc, note_readable, astray_readable)
 
   -- comparing bytes returns what comparing the forms returns
   pub content_same : (E : FormContent Form → FormContent Form → Bool) → IsExact E → IsEquivalence E
       → (a b : FormContent Form) → pointwise nat_eq (content_code code a) (content_code code b) ≡ E a b
   content_same E exact equivalence a b =
-      same_answer _ _
-      (λ h. rw (content_readable a b (list_exact nat_exact _ _ h)) (equivalence.refl b))
-      (λ h. rw (exact a b h) ((lists_equiv nat_equivalence).refl (content_code code b)))
+      grind (arith, nat_tests, same_answer, content_readable, list_exact, nat_exact, lists_equiv, nat_equivalence)
 
 -- equal bytes are of equal steps and contents
 pub state_pieces : {Machine Memory Place Form : Type 0} (code : Memory → List (Option Place) → List ℕ)

@@ -10,6 +10,7 @@ use Rattle.std.proofs.lemmas.List.{length-map, length-take, length-take-le, take
 use Rattle.std.proofs.lemmas.List.Elements.{All-from_recursion, All-weaker, recursion_from_All}
 use Rattle.std.proofs.lemmas.List.Folds.{map_fixed}
 use Rattle.std.proofs.lemmas.Map.Steps.{length-le_from_distinct_below}
+use Rattle.std.proofs.lemmas.Bool.Decides.{nat_tests}
 use Rattle.tree_machine.specs.Cells.{place_in}
 use Rattle.tree_machine.specs.Pairing.{IsAmong}
 use Rattle.tree_machine.specs.Graphs.{numbers_from}
@@ -67,10 +68,7 @@ parts_in_row g a (suc n) (p ∷ ps) l h =
 -- nodes and records that are met are no more than there are
 met_within : (fixed : ℕ) (s : Parts) {nodes records : List ℕ} → AreMet fixed s nodes records
     → (length nodes ≤ length s.nodes) × (length records ≤ length s.records)
-met_within fixed s {nodes} {records} met = (
-  length-le_from_distinct_below nodes _ met.nodes_distinct (all_has _ nodes met.nodes_below),
-  length-le_from_distinct_below records _ met.records_distinct (all_has _ records met.records_below),
-)
+met_within fixed s {nodes} {records} met = grind (arith, nat_tests, length-le_from_distinct_below, all_has)
 
 -- ---- the front of canonical parts
 
@@ -115,9 +113,11 @@ module _ (fixed : ℕ) (front : Front) (t : Parts) (h : ArePartsInRange fixed t)
       → renamed_part (met_nodes fixed t) (met_records fixed t) p ≡ p
   own_part p b =
       let met = walk_met fixed t h in
-      let nodes = own_names front.nodes (met_nodes fixed t) met.nodes_distinct nodes_first p.nodes b.0 in
-      let records = own_names front.records (met_records fixed t) met.records_distinct records_first p.records b.1 in
-      λ i. record { facts = p.facts; nodes = nodes i; records = records i }
+      grind (
+        arith,
+        own_names front.nodes (met_nodes fixed t) met.nodes_distinct nodes_first p.nodes b.0,
+        own_names front.records (met_records fixed t) met.records_distinct records_first p.records b.1,
+      )
 
   -- and so are the nodes and the records that come first
   own_nodes : map (λ x. renamed_part (met_nodes fixed t) (met_records fixed t) (part_at t.nodes x))
@@ -138,7 +138,7 @@ module _ (fixed : ℕ) (front : Front) (t : Parts) (h : ArePartsInRange fixed t)
       take-map _ front.nodes _ ∙ ap (map _) (taken_first front.nodes _ nodes_first) ∙ own_nodes in
       let records : take front.records (canonical_parts fixed t).records ≡ take front.records t.records =
       take-map _ front.records _ ∙ ap (map _) (taken_first front.records _ records_first) ∙ own_records in
-      ap (λ f. front_code f (canonical_parts fixed t)) front_is ∙ (λ i. graph_code (nodes i) (records i))
+      cc front_is
 
   -- where all come in front, the parts are canonical
   module _ (all_nodes : front.nodes ≡ length t.nodes) (all_records : front.records ≡ length t.records) where
@@ -178,11 +178,7 @@ pub own_completes : (front : Front) (s other : Parts) (twins : List Part) → le
     → front_code front s ++ part_codes s.held ≡ parts_code (all_front s) s
 own_completes front s other twins many e =
     let stated = parts_code_tells front (all_front other) _ other (sym many) e in
-    let all_nodes : take front.nodes s.nodes ≡ other.nodes = cc (stated.1, take-length other.nodes) in
-    let all_records : take front.records s.records ≡ other.records = cc (stated.2, take-length other.records) in
-    let nodes = all_nodes ∙ sym (ap (λ (p : Parts). p.nodes) stated.0) in
-    let records = all_records ∙ sym (ap (λ (p : Parts). p.records) stated.0) in
-    (λ i. graph_code (nodes i) (records i) ++ part_codes s.held) ∙ sym (own_parts_code s)
+    grind (arith, take-length other.nodes, take-length other.records, own_parts_code s)
 
 -- canonical parts that were read are met in the order of their numbers
 pub read_in_order : (fixed : ℕ) (front : Front) (s other : Parts) (twins : List Part) → ArePartsInRange fixed other

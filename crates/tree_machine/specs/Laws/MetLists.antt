@@ -1,23 +1,19 @@
 -- Lists of the nodes and of the records that are met: distinct, in range, and paired where the orders are.
 use Rattle.std.proofs.Common.{◌≡◌, ◌≢◌, ℕ, zero, suc, ◌+◌, ◌-◌, ◌<◌, ◌≤◌, ◌⊎◌, Bool, true, false, ◌&&◌}
-use Rattle.std.proofs.Common.{List, [], ◌∷◌, ◌++◌, map, length, refl, sym, ◌∙◌, ap, arith, append-nil, zero-add}
+use Rattle.std.proofs.Common.{List, [], ◌∷◌, ◌++◌, map, length, refl, arith, zero-add}
 use Rattle.std.specs.Prelude.{slice_get, Option, Some, None, nat_eq, nat_lt, nat_le}
-use Rattle.std.specs.List.{AllZip, AllByRecursion, filter, list_any, zip, IsDistinct}
+use Rattle.std.specs.List.{AllZip, AllByRecursion, filter, zip, IsDistinct}
 use Rattle.std.specs.Option.{option_and_then}
-use Rattle.std.proofs.lemmas.Bool.{eqb-true, ltb-true}
 use Rattle.std.proofs.lemmas.Bool.Decides.{Decides-eqb, nat_tests}
-use Rattle.std.proofs.lemmas.List.Elements.{filter-append}
 use Rattle.std.proofs.lemmas.List.Kept.{AllPairs-filter}
-use Rattle.std.proofs.lemmas.List.{map-append}
 use Rattle.std.proofs.lemmas.Map.Made.{AllPairs-from_IsDistinct, IsDistinct-from_AllPairs}
-use Rattle.std.proofs.lemmas.Map.Views.{any-filter_same}
 use Rattle.std.proofs.lemmas.Option.{slice_get_within}
 use Rattle.tree_machine.specs.Cells.{IsPairedOrNone, place_in}
 use Rattle.tree_machine.specs.Pairing.{IsOneToOne, IsAmong}
 use Rattle.tree_machine.specs.Graphs.{numbers_from}
 use Rattle.tree_machine.specs.Canonical.{nodes_met, records_met, as_cells}
 use Rattle.tree_machine.specs.Laws.CellLists.{mapped_distinct, distinct_in_row}
-use Rattle.tree_machine.specs.Laws.CellOrder.{Has, HasAll, all_from_has}
+use Rattle.tree_machine.specs.Laws.CellOrder.{Has, HasAll}
 use Rattle.tree_machine.specs.Laws.CellPlaces.{among_at, at_among, place_from_has, get_place, zip_one}
 
 -- ---- each number with its place
@@ -40,9 +36,7 @@ among_places xs x k h = among_at xs _ k x k h (own_number k (slice_get_within xs
 
 pub places_among : (xs : List ℕ) (x k : ℕ) → IsAmong (places xs) x k → slice_get xs k ≡ Some x
 places_among xs x k h =
-    let p = at_among xs (numbers_from 0 (length xs)) x k h in
-    let same : p.0 ≡ k = cc (own_number p.0 (slice_get_within xs p.0 x p.1), p.2) in
-    rw (← same) p.1
+    grind (arith, nat_tests, at_among xs (numbers_from 0 (length xs)) x k h, own_number, slice_get_within)
 
 pub places_one : (xs : List ℕ) → IsDistinct nat_eq xs → IsOneToOne (IsAmong (places xs))
 places_one xs d = zip_one xs _ d (distinct_in_row 0 (length xs)).distinct
@@ -62,16 +56,6 @@ pub filter_distinct : (p : ℕ → Bool) (xs : List ℕ) → IsDistinct nat_eq x
 filter_distinct p xs d =
     IsDistinct-from_AllPairs Decides-eqb _
     (AllPairs-filter (λ x y. x ≢ y) p xs (AllPairs-from_IsDistinct Decides-eqb xs d))
-
-filter_any : (p : ℕ → Bool) (xs : List ℕ) (x : ℕ)
-    → list_any (nat_eq x) (filter p xs) ≡ (p x && list_any (nat_eq x) xs)
-filter_any p xs x = any-filter_same (nat_eq x) p (p x) (λ y e. ap p (sym (eqb-true x y e))) xs
-
-pub filter_has : (p : ℕ → Bool) (xs : List ℕ) (x : ℕ) → Has (filter p xs) x → Has xs x × (p x ≡ true)
-filter_has p xs x h = grind (arith, filter_any p xs x)
-
-pub has_filter : (p : ℕ → Bool) (xs : List ℕ) (x : ℕ) → Has xs x → p x ≡ true → Has (filter p xs) x
-has_filter p xs x h t = cc (filter_any p xs x, h, t)
 
 pub filter_none : (p : ℕ → Bool) (xs : List ℕ) → AllByRecursion (λ x. p x ≡ false) xs → filter p xs ≡ []
 filter_none p [] h = refl
@@ -110,84 +94,60 @@ test_other n x l = grind (arith, nat_tests)
 pub test_record : (n r x : ℕ) → n ≤ x → x < n + r → (nat_le n x && nat_lt x (n + r)) ≡ true
 test_record n r x l k = grind (arith, nat_tests)
 
-pub record_test : (n r x : ℕ) → (nat_le n x && nat_lt x (n + r)) ≡ true → (n ≤ x) × (x < n + r)
-record_test n r x e = grind (arith, nat_tests)
-
 pub test_before : (n r x : ℕ) → x < n → (nat_le n x && nat_lt x (n + r)) ≡ false
 test_before n r x l = grind (arith, nat_tests)
 
 pub test_behind : (n r x : ℕ) → n + r ≤ x → (nat_le n x && nat_lt x (n + r)) ≡ false
 test_behind n r x l = grind (arith, nat_tests)
 
-lowered_any : (n : ℕ) (xs : List ℕ) (y : ℕ) → AllByRecursion (λ x. n ≤ x) xs
-    → list_any (nat_eq y) (map (λ x. x - n) xs) ≡ list_any (nat_eq (n + y)) xs
-lowered_any n [] y a = refl
-lowered_any n (x ∷ xs) y a = grind (arith, nat_tests, lowered_any n xs y a.1, a.0)
-
 -- ---- the nodes and the records that are met
 
-module _ (n : ℕ) (order : List ℕ) where
-  pub node_has : (x : ℕ) → Has (nodes_met n order) x → Has order x × (x < n)
-  node_has x h = let r = filter_has (is_node n) order x h in (r.0, ltb-true x n r.1)
+module _ (n : ℕ) where
+  pub node_has : (order : List ℕ) (x : ℕ) → Has (nodes_met n order) x → Has order x × (x < n)
+  node_has [] x h = cc
+  node_has (y ∷ order) x h = grind (arith, nat_tests, node_has order x)
 
-  pub has_node : (x : ℕ) → Has order x → x < n → Has (nodes_met n order) x
-  has_node x h l = has_filter (is_node n) order x h (test_node n x l)
+  pub has_node : (order : List ℕ) (x : ℕ) → Has order x → x < n → Has (nodes_met n order) x
+  has_node [] x h l = h
+  has_node (y ∷ order) x h l = grind (arith, nat_tests, has_node order x)
 
-  pub nodes_below : AllByRecursion (λ x. x < n) (nodes_met n order)
-  nodes_below = all_from_has _ _ (λ x h. (node_has x h).1)
+  pub nodes_below : (order : List ℕ) → AllByRecursion (λ x. x < n) (nodes_met n order)
+  nodes_below [] = tt
+  nodes_below (x ∷ order) = grind (arith, nat_tests, nodes_below order)
 
-  pub nodes_distinct : IsDistinct nat_eq order → IsDistinct nat_eq (nodes_met n order)
-  nodes_distinct d = filter_distinct (is_node n) order d
+  pub record_has : (order : List ℕ) (r y : ℕ) → Has (records_met n r order) y → Has order (n + y) × (y < r)
+  record_has [] r y h = cc
+  record_has (x ∷ order) r y h = grind (arith, nat_tests, record_has order r y)
 
-  module _ (r : ℕ) where
-    kept_behind : AllByRecursion (λ x. n ≤ x) (filter (is_record n r) order)
-    kept_behind = all_from_has _ _ (λ x h. (record_test n r x (filter_has _ order x h).1).0)
+  pub has_record : (order : List ℕ) (r y : ℕ) → Has order (n + y) → y < r → Has (records_met n r order) y
+  has_record [] r y h l = h
+  has_record (x ∷ order) r y h l = grind (arith, nat_tests, has_record order r y)
 
-    pub record_has : (y : ℕ) → Has (records_met n r order) y → Has order (n + y) × (y < r)
-    record_has y h =
-        grind (arith, nat_tests, filter_has (is_record n r) order (n + y) (sym (lowered_any n _ y kept_behind) ∙ h))
+  pub records_below : (order : List ℕ) (r : ℕ) → AllByRecursion (λ y. y < r) (records_met n r order)
+  records_below [] r = tt
+  records_below (x ∷ order) r = grind (arith, nat_tests, records_below order r)
 
-    pub has_record : (y : ℕ) → Has order (n + y) → y < r → Has (records_met n r order) y
-    has_record y h l =
-        lowered_any n _ y kept_behind
-        ∙ has_filter (is_record n r) order (n + y) h
-        (test_record n r (n + y) (omega arith) (omega arith))
+  kept_behind : (order : List ℕ) (r : ℕ) → AllByRecursion (λ x. n ≤ x) (filter (is_record n r) order)
+  kept_behind [] r = tt
+  kept_behind (x ∷ order) r = grind (arith, nat_tests, kept_behind order r)
 
-    pub records_below : AllByRecursion (λ y. y < r) (records_met n r order)
-    records_below = all_from_has _ _ (λ y h. (record_has y h).1)
+  pub records_distinct : (order : List ℕ) (r : ℕ) → IsDistinct nat_eq order → IsDistinct nat_eq (records_met n r order)
+  records_distinct order r d =
+      mapped_distinct (λ x. n ≤ x) (λ x. x - n) (λ x y p q e. omega (arith, e, p, q)) _ (kept_behind order r)
+      (filter_distinct _ order d)
 
-    pub records_distinct : IsDistinct nat_eq order → IsDistinct nat_eq (records_met n r order)
-    records_distinct d =
-        mapped_distinct (λ x. n ≤ x) (λ x. x - n) (λ x y p q e. omega (arith, e, p, q)) _ kept_behind
-        (filter_distinct _ order d)
-
--- ---- nodes and records as cells
+-- ---- nodes and records in front of other cells
 
 module _ (n r : ℕ) where
-  nodes_of_nodes : (xs : List ℕ) → AllByRecursion (λ x. x < n) xs → nodes_met n xs ≡ xs
-  nodes_of_nodes [] h = refl
-  nodes_of_nodes (x ∷ xs) h = grind (arith, nat_tests, nodes_of_nodes xs h.1, h.0)
-
-  nodes_of_records : (ys : List ℕ) → nodes_met n (map (λ y. n + y) ys) ≡ []
-  nodes_of_records [] = refl
-  nodes_of_records (y ∷ ys) = rw (test_other n (n + y) (omega arith)) (nodes_of_records ys)
-
-  records_of_nodes : (xs : List ℕ) → AllByRecursion (λ x. x < n) xs → records_met n r xs ≡ []
-  records_of_nodes [] h = refl
-  records_of_nodes (x ∷ xs) h = rw (test_before n r x h.0) (records_of_nodes xs h.1)
-
-  records_of_records : (ys : List ℕ) → AllByRecursion (λ y. y < r) ys → records_met n r (map (λ y. n + y) ys) ≡ ys
-  records_of_records [] h = refl
-  records_of_records (y ∷ ys) h = grind (arith, nat_tests, records_of_records ys h.1, h.0)
-
-  -- in front of other cells
   pub nodes_first : (nodes records zs : List ℕ) → AllByRecursion (λ x. x < n) nodes
       → nodes_met n (as_cells n nodes records ++ zs) ≡ nodes ++ nodes_met n zs
-  nodes_first nodes records zs h =
-      simp (filter-append, nodes_of_records records, append-nil, nodes_of_nodes nodes h) refl
+  nodes_first [] [] zs h = refl
+  nodes_first [] (y ∷ records) zs h = grind (arith, nat_tests, nodes_first [] records zs h)
+  nodes_first (x ∷ nodes) records zs h = grind (arith, nat_tests, nodes_first nodes records zs h.1, h.0)
 
   pub records_first : (nodes records zs : List ℕ) → AllByRecursion (λ x. x < n) nodes
       → AllByRecursion (λ y. y < r) records
       → records_met n r (as_cells n nodes records ++ zs) ≡ records ++ records_met n r zs
-  records_first nodes records zs h g =
-      simp (filter-append, map-append, records_of_nodes nodes h, records_of_records records g) refl
+  records_first [] [] zs h g = refl
+  records_first [] (y ∷ records) zs h g = grind (arith, nat_tests, records_first [] records zs h g.1, g.0)
+  records_first (x ∷ nodes) records zs h g = grind (arith, nat_tests, records_first nodes records zs h.1 g, h.0)

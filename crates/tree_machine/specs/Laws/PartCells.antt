@@ -1,6 +1,6 @@
 -- Parts as cells: nodes, behind them records, and behind these what is held; paired parts are paired cells.
 use Rattle.std.proofs.Common.{◌≡◌, ℕ, ◌+◌, ◌-◌, ◌<◌, ◌≤◌, ◌⊎◌, List, ◌++◌, map, length}
-use Rattle.std.proofs.Common.{sym, ◌∙◌, ap, inl, inr, arith, length-append}
+use Rattle.std.proofs.Common.{◌∙◌, inl, inr, arith, length-append}
 use Rattle.std.specs.Prelude.{Option, Some, None, IfSome, nat_eq}
 use Rattle.std.specs.List.{AllZip, All, IsDistinct}
 use Rattle.std.specs.Option.{option_map}
@@ -8,6 +8,7 @@ use Rattle.std.proofs.lemmas.List.{length-map}
 use Rattle.std.proofs.lemmas.List.Elements.{All-append, All-from_get_or, All-get_or, All-map, All-weaker}
 use Rattle.std.proofs.lemmas.List.Elements.{AllZip-get_or, length_all_zip}
 use Rattle.std.proofs.lemmas.Option.{IfSome_then, slice_get-get_or, slice_get-map, unwrap_or-slice_get}
+use Rattle.std.proofs.lemmas.Bool.Decides.{nat_tests}
 use Rattle.tree_machine.specs.Cells.{Content, content_at, IsPairedOrNone, IsPairing, IsRooted}
 use Rattle.tree_machine.specs.Pairing.{IsOneToOne}
 use Rattle.tree_machine.specs.Parts.{Part, Parts, part_at, ArePartsPaired, IsPartsPairing, IsPartBelow, ArePartsInRange}
@@ -45,18 +46,11 @@ length-cells s = simp (length-append, length-map)
 -- nodes, records and what is held, among all cells
 pub node_at : (s : Parts) (x : ℕ) → x < length s.nodes
     → content_at (all_cells s) x ≡ part_cell (length s.nodes) (part_at s.nodes x)
-node_at s x l =
-    content_front (parts_graph s) _ x (omega (arith, length-parts_graph s))
-    ∙ content_front _ _ x (simp length-map l)
-    ∙ content_map (part_cell (length s.nodes)) s.nodes x l
+node_at s x l = grind (arith, nat_tests, content_front, length-parts_graph, length-map, content_map)
 
 pub record_at : (s : Parts) (y : ℕ) → y < length s.records
     → content_at (all_cells s) (length s.nodes + y) ≡ part_cell (length s.nodes) (part_at s.records y)
-record_at s y l =
-    content_front (parts_graph s) _ (length s.nodes + y) (omega (arith, length-parts_graph s))
-    ∙ ap (λ n. content_at (parts_graph s) (n + y)) (sym (length-map s.nodes (part_cell (length s.nodes))))
-    ∙ content_back (map (part_cell (length s.nodes)) s.nodes) _ y
-    ∙ content_map (part_cell (length s.nodes)) s.records y l
+record_at s y l = grind (arith, nat_tests, content_front, length-parts_graph, length-map, content_back, content_map)
 
 pub held_at : (s : Parts) (i : ℕ) → i < length s.held
     → content_at (all_cells s) (length (parts_graph s) + i) ≡ part_cell (length s.nodes) (part_at s.held i)
@@ -103,11 +97,7 @@ module _ (fixed : ℕ) (s : Parts) (h : ArePartsInRange fixed s) where
   -- distinct nodes and records are roots of the graph
   pub graph_rooted : (roots : List ℕ) → All (λ x. x < length (parts_graph s)) roots → IsDistinct nat_eq roots
       → IsRooted (parts_graph s) roots
-  graph_rooted roots range distinct = record {
-    roots_in_range = range;
-    roots_distinct = distinct;
-    refs_in_range = graph_below _ (omega (arith, length-parts_graph s));
-  }
+  graph_rooted roots range distinct = grind (arith, nat_tests, graph_below, length-parts_graph)
 
 -- ---- paired parts
 
@@ -130,8 +120,7 @@ or_none_weaker P Q h _ _ p = absurd p
 
 part_from_zip : (Q : Part → Part → Type 0) (ps qs : List Part) → AllZip Q ps qs → (i : ℕ) → i < length ps
     → Q (part_at ps i) (part_at qs i)
-part_from_zip Q ps qs z i l =
-    rw (unwrap_or-slice_get ps i no_part, unwrap_or-slice_get qs i no_part) (AllZip-get_or Q ps qs i _ _ z l)
+part_from_zip Q ps qs z i l = grind (arith, nat_tests, unwrap_or-slice_get, AllZip-get_or)
 
 -- P pairs numbers below n with numbers below m, and Q pairs those from there on
 abbrev pub BelowOrBehind : ℕ → ℕ → (ℕ → ℕ → Type 0) → (ℕ → ℕ → Type 0) → ℕ → ℕ → Type 0
@@ -139,8 +128,7 @@ BelowOrBehind n m P Q x y = ((x < n) × (y < m) × P x y) ⊎ ((n ≤ x) × (m �
 
 below_or_behind_one : (n m : ℕ) (P Q : ℕ → ℕ → Type 0) → IsOneToOne P → IsOneToOne Q
     → IsOneToOne (BelowOrBehind n m P Q)
-below_or_behind_one n m P Q one then x y v w p q =
-    grind (arith, one x y v w, then (x - n) (y - m) (v - n) (w - m))
+below_or_behind_one n m P Q one then x y v w p q = grind (arith, nat_tests)
 
 module _ (P R : ℕ → ℕ → Type 0) (s t : Parts) where
   -- paired records, or what is held at one place
@@ -169,14 +157,18 @@ module _ (P R : ℕ → ℕ → Type 0) (s t : Parts) where
 
     cells_paired : (a b : Part) → ArePartsPaired P R a b
         → AreCellsPaired Paired (part_cell (length s.nodes) a) (part_cell (length t.nodes) b)
-    cells_paired a b k = record {
-      facts = (let e = length_all_zip (IsPairedOrNone P) a.nodes b.nodes k.nodes in let d = k.facts in cc);
-      refs =
-          zip_join (IsPairedOrNone Paired) a.nodes b.nodes _ _
-          (AllZip-weaker _ _ (or_none_weaker P Paired paired_node) a.nodes b.nodes k.nodes)
-          (map_zip (IsPairedOrNone Paired) _ _ a.records b.records
-          (AllZip-weaker (IsPairedOrNone R) _ (or_none_map R Paired _ _ paired_record) a.records b.records k.records));
-    }
+    cells_paired a b k =
+        grind (
+          arith,
+          nat_tests,
+          length_all_zip,
+          zip_join,
+          AllZip-weaker,
+          or_none_weaker,
+          paired_node,
+          map_zip,
+          or_none_map,
+        )
 
     paired_cells : (x y : ℕ) → Paired x y
         → AreCellsPaired Paired (content_at (all_cells s) x) (content_at (all_cells t) y)
@@ -189,8 +181,7 @@ module _ (P R : ℕ → ℕ → Type 0) (s t : Parts) where
         let a = x - length s.nodes - length s.records in
         let e : length (parts_graph s) + a ≡ x = omega (arith, length-parts_graph s) in
         let f : length (parts_graph t) + a ≡ y = omega (arith, length-parts_graph t) in
-        rw (← e, ← f, held_at s a p.1, held_at t a (omega (arith, held_long)))
-        (cells_paired _ _ (part_from_zip (ArePartsPaired P R) s.held t.held h.held_paired a p.1))
+        grind (arith, held_at, held_long, cells_paired, part_from_zip)
 
     -- paired parts are paired cells, from all roots that are paired
     pub cells_pairing : (roots targets : List ℕ) → AllZip Paired roots targets

@@ -1,12 +1,13 @@
 -- Parts that are renamed by nodes and records: paired with those they come from, in range, and the same where these
 -- are paired.
-use Rattle.std.proofs.Common.{◌≡◌, ℕ, ◌<◌, ◌≤◌, List, [], ◌∷◌, map, length, refl, ap, get_or}
+use Rattle.std.proofs.Common.{◌≡◌, ℕ, ◌<◌, ◌≤◌, List, [], ◌∷◌, map, length, refl, ap, get_or, arith}
 use Rattle.std.specs.Prelude.{slice_get, Option, Some, None, nat_eq, IfSome}
 use Rattle.std.specs.List.{AllZip, All, AllByRecursion, IsDistinct, zip}
 use Rattle.std.specs.Option.{option_and_then}
 use Rattle.std.proofs.lemmas.List.{length-map}
 use Rattle.std.proofs.lemmas.List.Elements.{All-map}
 use Rattle.std.proofs.lemmas.Option.{slice_get-map, slice_get_within}
+use Rattle.std.proofs.lemmas.Bool.Decides.{nat_tests}
 use Rattle.tree_machine.specs.Cells.{place_in}
 use Rattle.tree_machine.specs.Pairing.{IsAmong}
 use Rattle.tree_machine.specs.Graphs.{numbers_from}
@@ -64,11 +65,7 @@ place_range n f xs below x y p =
 module _ (nodes records : List ℕ) where
   part_paired : (p : Part) → IsPartMet nodes records p
       → ArePartsPaired (IsAmong (places nodes)) (IsAmong (places records)) p (renamed_part nodes records p)
-  part_paired p h = record {
-    facts = refl;
-    nodes = refs_placed nodes p.nodes h.0;
-    records = refs_placed records p.records h.1;
-  }
+  part_paired p h = grind (arith, nat_tests, refs_placed)
 
   held_paired : (ps : List Part) → AllByRecursion (IsPartMet nodes records) ps
       → AllZip (ArePartsPaired (IsAmong (places nodes)) (IsAmong (places records))) ps
@@ -124,11 +121,11 @@ by_same P R fixed s t nodes records others targets h z w =
     λ a b p.
     let first = refs_renamed P h.nodes_one_to_one nodes others z a.nodes b.nodes p.nodes in
     let then = refs_renamed R h.records_one_to_one records targets w a.records b.records p.records in
-    λ i. record { facts = p.facts i; nodes = first i; records = then i } in
+    grind arith in
     let first = map_paired P _ _ (λ x y p. same _ _ (h.nodes_paired x y p)) nodes others z in
     let then = map_paired R _ _ (λ x y p. same _ _ (h.records_paired x y p)) records targets w in
     let last = map_paired (ArePartsPaired P R) _ _ same s.held t.held h.held_paired in
-    λ i. record { nodes = first i; records = then i; held = last i }
+    cc
 
 -- and the same is left of nodes and records that are paired place by place
 module _ (fixed : ℕ) (s t : Parts) (nodes records others targets : List ℕ) (here : AreMet fixed s nodes records)
@@ -141,11 +138,7 @@ module _ (fixed : ℕ) (s t : Parts) (nodes records others targets : List ℕ) (
 
   part_from_same : (a b : Part) → IsPartMet nodes records a → IsPartMet others targets b
       → renamed_part nodes records a ≡ renamed_part others targets b → ArePartsPaired P R a b
-  part_from_same a b h g e = record {
-    facts = ap (λ p. p.facts) e;
-    nodes = refs_from_renamed nodes others a.nodes b.nodes h.0 g.0 (ap (λ p. p.nodes) e);
-    records = refs_from_renamed records targets a.records b.records h.1 g.1 (ap (λ p. p.records) e);
-  }
+  part_from_same a b h g e = grind (arith, nat_tests, refs_from_renamed)
 
   held_from_same : (ps qs : List Part) → AllByRecursion (IsPartMet nodes records) ps
       → AllByRecursion (IsPartMet others targets) qs

@@ -1,6 +1,7 @@
 -- Memories whose paired nodes are seen alike keep search order, or neither does.
 use Rattle.std.specs.Prelude.{◌≡◌, ◌↔◌, ℕ, zero, suc, Option, Some, None}
 use Rattle.std.proofs.Common.{arith}
+use Rattle.std.proofs.lemmas.Bool.Decides.{nat_tests}
 use Rattle.tree_machine.specs.declared.search_order.Shape.{Shape}
 use Rattle.tree_machine.specs.declared.search_order.Shape.TheVariants.{Leaf, Internal}
 use Rattle.tree_machine.specs.SearchOrder.{IsNodeOrdered, IsOrderedWithin, KeepsSearchOrder}
@@ -25,12 +26,7 @@ module _ (P : ℕ → ℕ → Type 0) where
     within_order : (levels low high x y : ℕ) → P x y → IsOrderedWithin shapes levels low high x
         ↔ IsOrderedWithin others levels low high y
     within_order zero low high x y p = ((λ o. o), (λ o. o))
-    within_order (suc levels) low high x y p =
-        node_order (IsOrderedWithin shapes levels) (IsOrderedWithin others levels) (within_order levels) low high
-        (shapes x) (others y) (seen x y p)
+    within_order (suc levels) low high x y p = grind (arith, nat_tests, within_order levels)
 
     pub search_order_paired : P 0 0 → KeepsSearchOrder shapes ↔ KeepsSearchOrder others
-    search_order_paired root = (
-      (λ o. record { levels = o.levels; within = (within_order o.levels 0 103 0 0 root).0 o.within }),
-      (λ o. record { levels = o.levels; within = (within_order o.levels 0 103 0 0 root).1 o.within }),
-    )
+    search_order_paired root = grind (arith, nat_tests, within_order)

@@ -27,9 +27,7 @@ digits_fewer (suc k) (count ∷ counts) digits = grind (arith, nat_tests, digits
 pub counts_short : (n : ℕ) → is_short (counts_in n) ≡ true
 unfolding counts_in
 counts_short n =
-    let digits = n % 8 ∷ n / 8 % 8 ∷ n / 64 % 8 ∷ n / 512 % 8 ∷ [] in
-    let all : are_digits digits ≡ true = grind (arith, nat_tests) in
-    short_of (take (n / 4096) digits) (omega (arith, length-take {A = ℕ})) (digits_fewer (n / 4096) digits all)
+    grind (arith, nat_tests, n % 8 ∷ n / 8 % 8 ∷ n / 64 % 8 ∷ n / 512 % 8 ∷ [], short_of, length-take, digits_fewer)
 
 -- ---- from a note to its number and back
 

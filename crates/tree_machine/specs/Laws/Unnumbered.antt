@@ -18,8 +18,7 @@ module _ {Place : Type 0} where
   held_paired (None ∷ held) = (tt, held_paired held)
   held_paired (Some place ∷ held) = (refl, held_paired held)
 
-  held_same : (held twins : List (Option Place)) → AllZip (AreHeldPaired ◌≡◌) held twins
-      → held ≡ twins
+  held_same : (held twins : List (Option Place)) → AllZip (AreHeldPaired ◌≡◌) held twins → held ≡ twins
   held_same [] [] h = refl
   held_same (None ∷ held) (None ∷ twins) h = cc (held_same held twins h.1)
   held_same (Some place ∷ held) (Some twin ∷ twins) h = cc (h.0, held_same held twins h.1)
