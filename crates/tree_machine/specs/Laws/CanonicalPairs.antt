@@ -56,17 +56,9 @@ module _ (P R : ℕ → ℕ → Type 0) (fixed : ℕ) (s t : Parts) (h : ArePart
       let Q : ℕ → ℕ → Type 0 = Paired P R s t in
       let front = fronts_paired in
       let long : length (parts_held s) ≡ length (parts_held t) = simp length-map (held_long P R s t fixed p) in
-      grind (
-        arith,
-        length-map,
-        zip_join,
-        AllZip-weaker,
-        paired_node,
-        map_zip,
-        paired_record,
-        numbers_zip,
-        length-parts_graph,
-      )
+      let node = paired_node P R s t fixed p in
+      let recorded = paired_record P R s t fixed p in
+      grind (arith, length-map, zip_join, AllZip-weaker, map_zip, numbers_zip, length-parts_graph)
 
   -- and so is all that is met
   pub same_from_pairing : canonical_parts fixed s ≡ canonical_parts fixed t

@@ -80,13 +80,11 @@ parts_code_tells f g s t l e =
     let left =
     left_tells (drop f.nodes s.nodes) (drop f.records s.records) (drop g.nodes t.nodes) (drop g.records t.records)
     held.1 in
-    grind (
-      arith,
-      take-append-drop f.nodes s.nodes,
-      take-append-drop g.nodes t.nodes,
-      take-append-drop f.records s.records,
-      take-append-drop g.records t.records,
-    )
+    let nodes : s.nodes ≡ t.nodes =
+    cc (take-append-drop f.nodes s.nodes, take-append-drop g.nodes t.nodes, front.0, left.0) in
+    let records : s.records ≡ t.records =
+    cc (take-append-drop f.records s.records, take-append-drop g.records t.records, front.1, left.1) in
+    (λ i. record { nodes = nodes i; records = records i; held = held.0 i }, front.0, front.1)
 
 -- ---- states
 
@@ -104,11 +102,8 @@ state_codes_tell code twin_code tells s t e =
     let pieces = state_pieces code s t.steps (state_content twin_code t) e in
     let many : length (places_of s.threads) ≡ length (places_of t.threads) =
     simp length-map (simp length-map at (ap (λ (c : FormContent (List ℕ)). length c.replies) pieces.1)) in
-    grind (
-      arith,
-      tells s.memory t.memory (places_of s.threads) (places_of t.threads) many,
-      same_threads s.threads t.threads,
-    )
+    let form = tells s.memory t.memory (places_of s.threads) (places_of t.threads) many in
+    grind (arith, same_threads s.threads t.threads)
 
 pub state_code_tells : {Machine Memory Place Form : Type 0} (code : Memory → List (Option Place) → List ℕ)
     → TellsWholly code code → IsInjective (state_code {Machine = Machine} {Form = Form} code)

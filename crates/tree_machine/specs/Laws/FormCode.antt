@@ -37,12 +37,8 @@ replies_readable : IsReadable replies_code
 unfolding replies_code
 replies_readable a b xs ys e =
     let most = length a + length b in
-    grind (
-      arith,
-      number_split (replies_number a) (replies_number b) xs ys e,
-      digits_of_number most a,
-      digits_of_number most b,
-    )
+    let parts = number_split (replies_number a) (replies_number b) xs ys e in
+    grind (arith, digits_of_number most a, digits_of_number most b)
 
 -- equal lists that are cut at one place have equal pieces
 pub halves : {A : Type 0} (xs us ys vs : List A) → length xs ≡ length us → xs ++ ys ≡ us ++ vs → (xs ≡ us) × (ys ≡ vs)

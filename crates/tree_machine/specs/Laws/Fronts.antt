@@ -113,11 +113,9 @@ module _ (fixed : ℕ) (front : Front) (t : Parts) (h : ArePartsInRange fixed t)
       → renamed_part (met_nodes fixed t) (met_records fixed t) p ≡ p
   own_part p b =
       let met = walk_met fixed t h in
-      grind (
-        arith,
-        own_names front.nodes (met_nodes fixed t) met.nodes_distinct nodes_first p.nodes b.0,
-        own_names front.records (met_records fixed t) met.records_distinct records_first p.records b.1,
-      )
+      let nodes = own_names front.nodes (met_nodes fixed t) met.nodes_distinct nodes_first p.nodes b.0 in
+      let records = own_names front.records (met_records fixed t) met.records_distinct records_first p.records b.1 in
+      grind arith
 
   -- and so are the nodes and the records that come first
   own_nodes : map (λ x. renamed_part (met_nodes fixed t) (met_records fixed t) (part_at t.nodes x))

@@ -158,17 +158,7 @@ module _ (P R : ℕ → ℕ → Type 0) (s t : Parts) where
     cells_paired : (a b : Part) → ArePartsPaired P R a b
         → AreCellsPaired Paired (part_cell (length s.nodes) a) (part_cell (length t.nodes) b)
     cells_paired a b k =
-        grind (
-          arith,
-          nat_tests,
-          length_all_zip,
-          zip_join,
-          AllZip-weaker,
-          or_none_weaker,
-          paired_node,
-          map_zip,
-          or_none_map,
-        )
+        grind (arith, length_all_zip, zip_join, AllZip-weaker, or_none_weaker, paired_node, map_zip, or_none_map)
 
     paired_cells : (x y : ℕ) → Paired x y
         → AreCellsPaired Paired (content_at (all_cells s) x) (content_at (all_cells t) y)

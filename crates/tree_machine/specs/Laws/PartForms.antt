@@ -49,4 +49,5 @@ module _ {Memory Place : Type 0} (parts : Memory → List (Option Place) → Par
         let here = in_range memory held h places in
         let long = same_count memory other held others many in
         let there = back other others (decoded_in_range fixed (parts memory held) _ front here long e) in
-        grind (arith, there, exactly memory other held others, decoded_paired fixed (parts memory held) _ front here long e)
+        let paired = decoded_paired fixed (parts memory held) _ front here long e in
+        grind (arith, there, exactly memory other held others)
