@@ -1,7 +1,7 @@
 -- Canonical parts: they can be paired with the parts that they come from, and are equal exactly where parts can be.
 use Rattle.std.proofs.Common.{◌≡◌, ℕ, ◌+◌, ◌<◌, ◌≤◌, List, [], ◌∷◌, ◌++◌, map, length, ◌∙◌, ap, subst}
 use Rattle.std.proofs.Common.{append_assoc, append-nil, arith, length-append}
-use Rattle.std.specs.Prelude.{Option, Some, None, nat_eq}
+use Rattle.std.specs.Prelude.{Option, nat_eq}
 use Rattle.std.specs.List.{All, AllByRecursion, IsDistinct}
 use Rattle.std.specs.Option.{option_map}
 use Rattle.std.proofs.lemmas.List.{length-map}
@@ -36,10 +36,8 @@ names_met : (n r : ℕ) (order : List ℕ) (ns rs : List (Option ℕ)) → RefsB
     → HasAll order (ns ++ map (option_map (λ x. n + x)) rs)
     → HasAll (nodes_met n order) ns × HasAll (records_met n r order) rs
 names_met n r order [] [] l k h = (tt, tt)
-names_met n r order [] (None ∷ rs) l k h = names_met n r order [] rs l k.1 h
-names_met n r order [] (Some y ∷ rs) l k h = grind (arith, names_met n r order [] rs l k.1 h.1, has_record n order r y)
-names_met n r order (None ∷ ns) rs l k h = names_met n r order ns rs l.1 k h
-names_met n r order (Some x ∷ ns) rs l k h = grind (arith, names_met n r order ns rs l.1 k h.1, has_node n order x)
+names_met n r order [] (o ∷ rs) l k h = grind (arith, names_met n r order [] rs, has_record n order r)
+names_met n r order (o ∷ ns) rs l k h = grind (arith, names_met n r order ns rs, has_node n order)
 
 -- the nodes and the records of an order of cells
 abbrev nodes_of : Parts → List ℕ → List ℕ

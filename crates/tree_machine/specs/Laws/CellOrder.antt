@@ -47,8 +47,7 @@ has_extends e x h = rw (e.is, list_any-append, h) refl
 
 pub has_all_extends : {xs ys : List ℕ} → Extends xs ys → (refs : List (Option ℕ)) → HasAll xs refs → HasAll ys refs
 has_all_extends e [] h = tt
-has_all_extends e (None ∷ refs) h = has_all_extends e refs h
-has_all_extends e (Some x ∷ refs) h = (has_extends e x h.0, has_all_extends e refs h.1)
+has_all_extends e (r ∷ refs) h = grind (arith, has_extends e, has_all_extends e refs)
 
 pub get_append : (xs zs : List ℕ) (k x : ℕ) → slice_get xs k ≡ Some x → slice_get (xs ++ zs) k ≡ Some x
 get_append [] zs k x h = cc
@@ -73,9 +72,7 @@ met_all_extends (Some x ∷ refs) order = extends_more (met_extends order x) (me
 
 pub met_all_has : (refs : List (Option ℕ)) (order : List ℕ) → HasAll (met_all order refs) refs
 met_all_has [] order = tt
-met_all_has (None ∷ refs) order = met_all_has refs order
-met_all_has (Some x ∷ refs) order =
-    (has_extends (met_all_extends refs (met order x)) x (met_has order x), met_all_has refs (met order x))
+met_all_has (r ∷ refs) order = grind (arith, met_all_has refs, has_extends, met_all_extends refs, met_has)
 
 -- ---- distinct cells, each below n
 

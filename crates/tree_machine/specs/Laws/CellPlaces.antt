@@ -1,6 +1,6 @@
 -- The places of cells in an order.
 use Rattle.std.proofs.Common.{◌≡◌, ℕ, zero, suc, false, List, [], ◌∷◌, map, refl, ap, arith, inl, inr}
-use Rattle.std.specs.Prelude.{slice_get, Option, Some, None, nat_eq}
+use Rattle.std.specs.Prelude.{slice_get, Option, Some, nat_eq}
 use Rattle.std.specs.List.{AllZip, zip, IsDistinct}
 use Rattle.std.specs.Option.{option_and_then}
 use Rattle.std.proofs.lemmas.Bool.Decides.{eqb_tells, nat_tests}
@@ -22,10 +22,7 @@ module _ (P : ℕ → ℕ → Type 0) (one : IsOneToOne P) where
       → AllZip (IsPairedOrNone P) refs sefs
       → map (option_and_then (place_in xs)) refs ≡ map (option_and_then (place_in ys)) sefs
   refs_renamed xs ys z [] [] h = refl
-  refs_renamed xs ys z (None ∷ refs) (None ∷ sefs) h = cc (refs_renamed xs ys z refs sefs h.1)
-  refs_renamed xs ys z (Some x ∷ refs) (Some y ∷ sefs) h =
-      cc (place_paired xs ys x y z h.0, refs_renamed xs ys z refs sefs h.1)
-  refs_renamed xs ys z (_ ∷ refs) (_ ∷ sefs) h = absurd h.0
+  refs_renamed xs ys z (r ∷ refs) (s ∷ sefs) h = grind (arith, place_paired xs ys, refs_renamed xs ys z refs sefs h.1)
   refs_renamed xs ys z _ _ h = absurd h
 
 -- what is in a list has a place there, and is at it

@@ -1,6 +1,6 @@
 -- Two walks over paired cells go in lock step.
 use Rattle.std.proofs.Common.{◌≡◌, ℕ, zero, suc, ◌↔◌, false, List, [], ◌∷◌, refl, arith}
-use Rattle.std.specs.Prelude.{slice_get, Option, Some, None, nat_eq}
+use Rattle.std.specs.Prelude.{slice_get, Option, nat_eq}
 use Rattle.std.specs.List.{AllZip, list_any}
 use Rattle.std.proofs.lemmas.Bool.Decides.{nat_tests}
 use Rattle.std.proofs.lemmas.List.Elements.{AllZip-push}
@@ -36,19 +36,14 @@ module _ (P : ℕ → ℕ → Type 0) (one : IsOneToOne P) where
   met_all_paired : (refs sefs : List (Option ℕ)) (xs ys : List ℕ) → AllZip P xs ys
       → AllZip (IsPairedOrNone P) refs sefs → AllZip P (met_all xs refs) (met_all ys sefs)
   met_all_paired [] [] xs ys h p = h
-  met_all_paired (None ∷ refs) (None ∷ sefs) xs ys h p = met_all_paired refs sefs xs ys h p.1
-  met_all_paired (Some x ∷ refs) (Some y ∷ sefs) xs ys h p =
-      met_all_paired refs sefs (met xs x) (met ys y) (met_paired xs ys x y h p.0) p.1
-  met_all_paired (_ ∷ refs) (_ ∷ sefs) xs ys h p = absurd p.0
+  met_all_paired (r ∷ refs) (s ∷ sefs) xs ys h p = grind (arith, met_all_paired refs sefs, met_paired)
   met_all_paired _ _ xs ys h p = absurd p
 
 module _ (P : ℕ → ℕ → Type 0) (cells others : List Content) (roots targets : List ℕ)
     (h : IsPairing P cells roots others targets) where
   visited_paired : (xs ys : List ℕ) → AllZip P xs ys → (r s : Option ℕ) → IsPairedOrNone P r s
       → AllZip P (visited cells xs r) (visited others ys s)
-  visited_paired xs ys z None None p = z
-  visited_paired xs ys z (Some x) (Some y) p = met_all_paired P h.one_to_one _ _ xs ys z (h.refs_paired x y p)
-  visited_paired xs ys z _ _ p = absurd p
+  visited_paired xs ys z r s p = grind (arith, met_all_paired P h.one_to_one, h.refs_paired)
 
   -- two walks go in lock step
   pub met_in_paired : (n : ℕ) → AllZip P (met_in cells roots n) (met_in others targets n)

@@ -88,16 +88,13 @@ module _ (cells others : List Content) (roots targets : List ℕ) (rooted : IsRo
       let same = unmap (λ x. renamed xs (content_at cells x)) (λ y. renamed ys (content_at others y)) xs ys e in
       record {
         one_to_one = zip_one xs ys here.distinct there.distinct;
-        in_range = λ x y h.
-            let p = at_among xs ys x y h in
-            (here.below x (has_at xs p.0 x p.1), there.below y (has_at ys p.0 y p.2));
+        in_range = λ x y h. grind (arith, at_among xs ys x y h, has_at, here.below x, there.below y);
         roots_paired = zip_at_each _ roots targets l (λ k x y h g.
             among_at xs ys k x y (get_extends front_x k x h) (get_extends front_y k y g));
         facts_equal = λ x y h. ap (λ c. c.facts) (rel_among _ xs ys same x y h);
         refs_paired = λ x y h.
-            let p = at_among xs ys x y h in
-            refs_from_renamed xs ys _ _ (order_closed cells roots rooted p.0 x p.1)
-            (order_closed others targets aimed p.0 y p.2) (ap (λ c. c.refs) (rel_among _ xs ys same x y h));
+            let alike = rel_among _ xs ys same x y h in
+            grind (arith, at_among xs ys x y h, refs_from_renamed, order_closed);
       }
 
   -- two results are equal exactly if some set of pairs is a pairing

@@ -1,7 +1,7 @@
 -- Bytes determine what they are of: nodes, records and what threads hold, and states.
 use Rattle.std.proofs.Common.{◌≡◌, ℕ, List, [], ◌∷◌, ◌++◌, map, length, take, drop}
 use Rattle.std.proofs.Common.{refl, sym, ap, arith, append_assoc, append-nil, length-append}
-use Rattle.std.specs.Prelude.{Option, Some, None}
+use Rattle.std.specs.Prelude.{Option}
 use Rattle.std.proofs.lemmas.List.{length-map, take-append-drop}
 use Rattle.std.proofs.lemmas.Bool.Decides.{nat_tests}
 use Rattle.tree_machine.specs.Cells.{Content}
@@ -26,9 +26,7 @@ map_tells f tells _ _ e = cc
 -- ---- cells
 
 reference_same : (r s : Option ℕ) → reference_number r ≡ reference_number s → r ≡ s
-reference_same None None e = refl
-reference_same (Some x) (Some y) e = cc
-reference_same _ _ e = absurd (omega arith)
+reference_same r s e = grind arith
 
 cell_split : (c d : Content) (xs ys : List ℕ) → cell_code c ++ xs ≡ cell_code d ++ ys → (c ≡ d) × (xs ≡ ys)
 cell_split c d xs ys e =

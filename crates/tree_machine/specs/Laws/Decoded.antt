@@ -36,9 +36,7 @@ twin_at f g h P _ _ e d z t v at = cc
 -- both options hold a value, or neither does
 pub held_are_some : {A : Type 0} (P : A → A → Type 0) (held twin : Option A) → AreHeldPaired P held twin
     → is_some held ≡ is_some twin
-held_are_some P None None k = refl
-held_are_some P (Some x) (Some y) k = refl
-held_are_some P _ _ k = absurd k
+held_are_some P held twin k = grind arith
 
 module _ {Machine Memory Place Form : Type 0} (rules : Rules Memory Place)
     (form_of : Memory → List (Option Place) → Form) (form_code : Form → List ℕ)

@@ -1,6 +1,6 @@
 -- The content of the form of a state can be read off its bytes, so that two forms are equal where their bytes are.
 use Rattle.std.specs.Prelude.{◌≡◌, ℕ, Bool, List, [], ◌∷◌, ◌++◌, length, Option}
-use Rattle.std.specs.Prelude.{Some, None, nat_eq}
+use Rattle.std.specs.Prelude.{nat_eq}
 use Rattle.std.specs.Cmp.{IsEquivalence}
 use Rattle.std.specs.Cmp.Lexicographic.{pointwise}
 use Rattle.std.proofs.Common.{◌+◌, refl, arith, append_assoc}
@@ -53,9 +53,7 @@ note_readable cs ds xs ys e =
     grind (arith, counts_of_number cs, counts_of_number ds, number_below cs, number_below ds, halves cs ds xs ys)
 
 astray_readable : IsReadable astray_code
-astray_readable None None xs ys e = grind arith
-astray_readable (Some t) (Some u) xs ys e = grind arith
-astray_readable _ _ xs ys e = grind arith
+astray_readable a b xs ys e = grind arith
 
 module _ {Form : Type 0} (code : Form → List ℕ) (readable : IsInjective code) where
   pub content_readable : IsInjective (content_code code)

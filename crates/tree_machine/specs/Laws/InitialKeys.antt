@@ -43,20 +43,11 @@ module _ (before after : ℕ → Option Shape) (key : ℕ) (end : End) (put : Is
         → after x ≡ Some shape
     kept x shape e other = put.kept x shape (λ same. other (sym e ∙ ap before same ∙ is)) e
 
-    frame_at : (levels : ℕ) → ((low high x : ℕ) → (low < kp → kp < high → ⊥) → IsOrderedWithin before levels low high x
-        → IsOrderedWithin after (suc levels) low high x)
-        → (low high x : ℕ) → (low < kp → kp < high → ⊥) → (shape : Option Shape) → before x ≡ shape
-        → IsNodeOrdered (IsOrderedWithin before levels) low high shape
-        → IsOrderedWithin after (suc (suc levels)) low high x
-    frame_at levels f low high x out None e o = absurd o
-    frame_at levels f low high x out (Some (Leaf k)) e o = grind arith
-    frame_at levels f low high x out (Some (Internal m l r)) e o = grind (arith, nat_tests, apart)
-
     -- what lies apart from the parent stays in order, within one level more
     frame : (levels low high x : ℕ) → (low < kp → kp < high → ⊥) → IsOrderedWithin before levels low high x
         → IsOrderedWithin after (suc levels) low high x
     frame zero low high x out o = absurd o
-    frame (suc levels) low high x out o = frame_at levels (frame levels) low high x out (before x) refl o
+    frame (suc levels) low high x out o = grind (arith, frame levels, apart before levels, kept x)
 
   module _ (fresh : (x j : ℕ) → before x ≡ Some (Leaf j) → key ≢ j) where
     -- an internal node of so many levels stays in order where the key is inserted below it

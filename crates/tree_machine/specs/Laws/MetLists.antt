@@ -1,7 +1,7 @@
 -- Lists of the nodes and of the records that are met: distinct, in range, and paired where the orders are.
-use Rattle.std.proofs.Common.{◌≡◌, ◌≢◌, ℕ, zero, suc, ◌+◌, ◌-◌, ◌<◌, ◌≤◌, ◌⊎◌, Bool, true, false, ◌&&◌}
+use Rattle.std.proofs.Common.{◌≡◌, ◌≢◌, ℕ, zero, suc, ◌+◌, ◌<◌, ◌≤◌, ◌⊎◌, Bool, true, false, ◌&&◌}
 use Rattle.std.proofs.Common.{List, [], ◌∷◌, ◌++◌, map, length, refl, arith, zero-add}
-use Rattle.std.specs.Prelude.{slice_get, Option, Some, None, nat_eq, nat_lt, nat_le}
+use Rattle.std.specs.Prelude.{slice_get, Option, Some, nat_eq, nat_lt, nat_le}
 use Rattle.std.specs.List.{AllZip, AllByRecursion, filter, zip, IsDistinct}
 use Rattle.std.specs.Option.{option_and_then}
 use Rattle.std.proofs.lemmas.Bool.Decides.{Decides-eqb, nat_tests}
@@ -35,8 +35,7 @@ pub among_places : (xs : List ℕ) (x k : ℕ) → slice_get xs k ≡ Some x →
 among_places xs x k h = among_at xs _ k x k h (own_number k (slice_get_within xs k x h))
 
 pub places_among : (xs : List ℕ) (x k : ℕ) → IsAmong (places xs) x k → slice_get xs k ≡ Some x
-places_among xs x k h =
-    grind (arith, nat_tests, at_among xs (numbers_from 0 (length xs)) x k h, own_number, slice_get_within)
+places_among xs x k h = grind (arith, at_among, own_number, slice_get_within)
 
 pub places_one : (xs : List ℕ) → IsDistinct nat_eq xs → IsOneToOne (IsAmong (places xs))
 places_one xs d = zip_one xs _ d (distinct_in_row 0 (length xs)).distinct
@@ -45,10 +44,7 @@ places_one xs d = zip_one xs _ d (distinct_in_row 0 (length xs)).distinct
 pub refs_placed : (xs : List ℕ) (refs : List (Option ℕ)) → HasAll xs refs
     → AllZip (IsPairedOrNone (IsAmong (places xs))) refs (map (option_and_then (place_in xs)) refs)
 refs_placed xs [] h = tt
-refs_placed xs (None ∷ refs) h = (tt, refs_placed xs refs h)
-refs_placed xs (Some x ∷ refs) h =
-    let k = place_from_has xs x h.0 in
-    (rw k.1 (among_places xs x k.0 (get_place xs x k.0 k.1)), refs_placed xs refs h.1)
+refs_placed xs (r ∷ refs) h = grind (arith, place_from_has, get_place, among_places xs, refs_placed xs refs)
 
 -- ---- what a filter keeps
 
@@ -132,9 +128,7 @@ module _ (n : ℕ) where
   kept_behind (x ∷ order) r = grind (arith, nat_tests, kept_behind order r)
 
   pub records_distinct : (order : List ℕ) (r : ℕ) → IsDistinct nat_eq order → IsDistinct nat_eq (records_met n r order)
-  records_distinct order r d =
-      mapped_distinct (λ x. n ≤ x) (λ x. x - n) (λ x y p q e. omega (arith, e, p, q)) _ (kept_behind order r)
-      (filter_distinct _ order d)
+  records_distinct order r d = grind (arith, mapped_distinct, kept_behind, filter_distinct)
 
 -- ---- nodes and records in front of other cells
 

@@ -12,14 +12,13 @@ use Rattle.tree_machine.specs.declared.machine.Outcome.{Outcome}
 use Rattle.tree_machine.specs.declared.machine.Outcome.TheVariants.{Goes, Replies, Astray}
 use Rattle.tree_machine.specs.declared.search_order.End.{End}
 use Rattle.tree_machine.specs.declared.search_order.Shape.{Shape}
-use Rattle.tree_machine.specs.declared.search_order.Shape.TheVariants as shape
 use Rattle.tree_machine.specs.Cells.{IsPairedOrNone}
 use Rattle.tree_machine.specs.Pairing.{Pairing, Extends, IsAmong, IsOneToOne, AreHeldPaired, AreOutcomesPaired}
 use Rattle.tree_machine.specs.Pairing.{AreStepsPaired}
 use Rattle.tree_machine.specs.Parts.{Part, Parts, part_at, ArePartsPaired, IsPartsPairing, IsPartBelow}
 use Rattle.tree_machine.specs.Parts.{ArePartsInRange}
 use Rattle.tree_machine.specs.Rules.{Rules, ArePlacesInRange, IsOutcomeInRange}
-use Rattle.tree_machine.specs.SearchOrder.{went_down, end_of}
+use Rattle.tree_machine.specs.SearchOrder.{end_of}
 use Rattle.tree_machine.specs.Laws.PartCells.{all_parts, part_all}
 use Rattle.tree_machine.specs.Laws.SearchOrderPairs.{AreShapesPaired}
 
@@ -50,8 +49,7 @@ abbrev IsBelow : ℕ → Option ℕ → Type 0
 IsBelow n o = IfSome o (λ x. x < n)
 
 name_self : (n : ℕ) (o : Option ℕ) → IsBelow n o → IsPairedOrNone (IsAmong (selves n)) o o
-name_self n None h = tt
-name_self n (Some x) h = self_among n x h
+name_self n o h = grind (arith, self_among n)
 
 all_self : {A : Type 0} (P : A → A → Type 0) (Q : A → Type 0) → ((a : A) → Q a → P a a) → (xs : List A) → All Q xs
     → AllZip P xs xs
@@ -117,9 +115,7 @@ module _ (P R : ℕ → ℕ → Type 0) (n r : ℕ) (nodes : (x y : ℕ) → P x
   where
     name_in : (Q : ℕ → ℕ → Type 0) (m : ℕ) → ((x y : ℕ) → Q x y → x < m) → (a b : Option ℕ) → IsPairedOrNone Q a b
         → IsBelow m a
-    name_in Q m f None b h = tt
-    name_in Q m f (Some x) (Some y) h = f x y h
-    name_in Q m f (Some x) None h = absurd h
+    name_in Q m f a b h = grind arith
 
     part_in : (a b : Part) → ArePartsPaired P R a b → IsPartBelow n r a
     part_in a b h = record {
@@ -157,22 +153,10 @@ module _ (P : ℕ → ℕ → Type 0) (shapes others : ℕ → Option Shape)
   abbrev AreEndsPaired : End → End → Type 0
   AreEndsPaired a b = P a.parent b.parent × P a.leaf b.leaf
 
-  down_paired : (below other : ℕ → End) → ((x y : ℕ) → P x y → AreEndsPaired (below x) (other y))
-      → (here there : End) → AreEndsPaired here there → (a b : Option Shape) → AreShapesPaired P a b
-      → AreEndsPaired (went_down k below here a) (went_down k other there b)
-  down_paired below other f here there e None None h = e
-  down_paired below other f here there e (Some (shape.Leaf i)) (Some (shape.Leaf j)) h = e
-  down_paired below other f here there e (Some (shape.Internal i l r)) (Some (shape.Internal j m s)) h =
-      grind arith
-  down_paired below other f here there e _ _ h = absurd h
-
   pub ends_paired : (levels parent above x y : ℕ) → P parent above → P x y
       → AreEndsPaired (end_of shapes k levels parent x) (end_of others k levels above y)
   ends_paired zero parent above x y p q = (p, q)
-  ends_paired (suc levels) parent above x y p q =
-      down_paired (end_of shapes k levels x) (end_of others k levels y) (λ a b r. ends_paired levels x y a b q r)
-      (record { parent = parent; leaf = x }) (record { parent = above; leaf = y }) (p, q) (shapes x) (others y)
-      (seen x y q)
+  ends_paired (suc levels) parent above x y p q = grind (arith, seen x y q, ends_paired levels)
 
 -- ---- accesses
 
@@ -185,21 +169,16 @@ module _ {Place : Type 0} where
 
   outcome_paired : (P : Place → Place → Type 0) (o : Outcome Place) → AreOutcomesPaired P o o
       → AreHeldPaired P (place_of o) (place_of o)
-  outcome_paired P (Goes place) h = h
-  outcome_paired P (Replies reply) h = tt
-  outcome_paired P Astray h = tt
+  outcome_paired P o h = grind arith
 
   held_extends : (P Q : Place → Place → Type 0) → ((a b : Place) → P a b → Q a b) → (held : Option Place)
       → AreHeldPaired P held held → AreHeldPaired Q held held
-  held_extends P Q f None h = tt
-  held_extends P Q f (Some place) h = f place place h
+  held_extends P Q f held h = grind arith
 
 module _ {Memory Place : Type 0} where
   outcome_in : (rules : Rules Memory Place) (memory : Memory) (o : Outcome Place)
       → IfSome (place_of o) (rules.IsPlaceInRange memory) → IsOutcomeInRange rules memory o
-  outcome_in rules memory (Goes place) h = h
-  outcome_in rules memory (Replies reply) h = tt
-  outcome_in rules memory Astray h = tt
+  outcome_in rules memory o h = grind arith
 
   -- With IsWhole p memory that p pairs all of the memory: what is in range is paired with itself, what is paired whole
   -- is in range, and accesses keep a pairing whole. So they keep the memory in range, with what the outcome names and

@@ -1,7 +1,7 @@
 -- Parts as cells: nodes, behind them records, and behind these what is held; paired parts are paired cells.
 use Rattle.std.proofs.Common.{◌≡◌, ℕ, ◌+◌, ◌-◌, ◌<◌, ◌≤◌, ◌⊎◌, List, ◌++◌, map, length}
 use Rattle.std.proofs.Common.{◌∙◌, inl, inr, arith, length-append}
-use Rattle.std.specs.Prelude.{Option, Some, None, IfSome, nat_eq}
+use Rattle.std.specs.Prelude.{Option, IfSome, nat_eq}
 use Rattle.std.specs.List.{AllZip, All, IsDistinct}
 use Rattle.std.specs.Option.{option_map}
 use Rattle.std.proofs.lemmas.List.{length-map}
@@ -67,8 +67,7 @@ part_refs_below n r m l p h =
     (All-map (λ x. IfSome x (λ y. y < m)) _ p.records (All-weaker _ _ raised p.records h.records))
   where
     raised : (x : Option ℕ) → IfSome x (λ y. y < r) → IfSome (option_map (λ x. n + x) x) (λ y. y < m)
-    raised None k = tt
-    raised (Some y) k = omega arith
+    raised x k = grind arith
 
 module _ (fixed : ℕ) (s : Parts) (h : ArePartsInRange fixed s) where
   cells_below : (m : ℕ) → length s.nodes + length s.records ≤ m → (parts : List Part)
@@ -108,15 +107,11 @@ pub record AreCellsPaired (P : ℕ → ℕ → Type 0) (c d : Content) : Type 0 
 
 or_none_map : (P Q : ℕ → ℕ → Type 0) (f g : ℕ → ℕ) → ((x y : ℕ) → P x y → Q (f x) (g y)) → (r s : Option ℕ)
     → IsPairedOrNone P r s → IsPairedOrNone Q (option_map f r) (option_map g s)
-or_none_map P Q f g h None None p = tt
-or_none_map P Q f g h (Some x) (Some y) p = h x y p
-or_none_map P Q f g h _ _ p = absurd p
+or_none_map P Q f g h r s p = grind arith
 
 or_none_weaker : (P Q : ℕ → ℕ → Type 0) → ((x y : ℕ) → P x y → Q x y) → (r s : Option ℕ) → IsPairedOrNone P r s
     → IsPairedOrNone Q r s
-or_none_weaker P Q h None None p = tt
-or_none_weaker P Q h (Some x) (Some y) p = h x y p
-or_none_weaker P Q h _ _ p = absurd p
+or_none_weaker P Q h r s p = grind arith
 
 part_from_zip : (Q : Part → Part → Type 0) (ps qs : List Part) → AllZip Q ps qs → (i : ℕ) → i < length ps
     → Q (part_at ps i) (part_at qs i)
@@ -125,10 +120,6 @@ part_from_zip Q ps qs z i l = grind (arith, nat_tests, unwrap_or-slice_get, AllZ
 -- P pairs numbers below n with numbers below m, and Q pairs those from there on
 abbrev pub BelowOrBehind : ℕ → ℕ → (ℕ → ℕ → Type 0) → (ℕ → ℕ → Type 0) → ℕ → ℕ → Type 0
 BelowOrBehind n m P Q x y = ((x < n) × (y < m) × P x y) ⊎ ((n ≤ x) × (m ≤ y) × Q (x - n) (y - m))
-
-below_or_behind_one : (n m : ℕ) (P Q : ℕ → ℕ → Type 0) → IsOneToOne P → IsOneToOne Q
-    → IsOneToOne (BelowOrBehind n m P Q)
-below_or_behind_one n m P Q one then x y v w p q = grind (arith, nat_tests)
 
 module _ (P R : ℕ → ℕ → Type 0) (s t : Parts) where
   -- paired records, or what is held at one place

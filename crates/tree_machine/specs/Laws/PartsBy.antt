@@ -1,6 +1,6 @@
 -- Parts that are renamed by nodes and records: paired with those they come from, in range, and the same where these
 -- are paired.
-use Rattle.std.proofs.Common.{◌≡◌, ℕ, ◌<◌, ◌≤◌, List, [], ◌∷◌, map, length, refl, ap, get_or, arith}
+use Rattle.std.proofs.Common.{◌≡◌, ℕ, ◌<◌, ◌≤◌, List, [], ◌∷◌, map, length, ap, get_or, arith}
 use Rattle.std.specs.Prelude.{slice_get, Option, Some, None, nat_eq, IfSome}
 use Rattle.std.specs.List.{AllZip, All, AllByRecursion, IsDistinct, zip}
 use Rattle.std.specs.Option.{option_and_then}
@@ -39,11 +39,10 @@ part_map_at f xs k x h = rw (slice_get-map, h)
 
 place_below : (xs : List ℕ) (r : Option ℕ) → IfSome (option_and_then (place_in xs) r) (λ y. y < length xs)
 place_below xs None = tt
-place_below xs (Some x) = go (place_in xs x) refl
-  where
-    go : (r : Option ℕ) → place_in xs x ≡ r → IfSome r (λ y. y < length xs)
-    go None e = tt
-    go (Some k) e = slice_get_within xs k x (get_place xs x k e)
+place_below xs (Some x) =
+    let within : (k : ℕ) → place_in xs x ≡ Some k → k < length xs =
+    λ k e. slice_get_within xs k x (get_place xs x k e) in
+    grind (arith, within)
 
 placed_below : (xs : List ℕ) (refs : List (Option ℕ))
     → All (λ r. IfSome r (λ y. y < length xs)) (map (option_and_then (place_in xs)) refs)
@@ -164,14 +163,10 @@ module _ (fixed : ℕ) (s t : Parts) (nodes records others targets : List ℕ) (
         nodes_in_range = pair_range _ _ nodes others here.nodes_below there.nodes_below;
         records_in_range = pair_range _ _ records targets here.records_below there.records_below;
         nodes_paired = λ x y p.
-            let at = at_among nodes others x y p in
-            part_from_same _ _ (here.nodes_closed x (has_at nodes at.0 x at.1))
-            (there.nodes_closed y (has_at others at.0 y at.2))
-            (rel_among _ nodes others same_nodes x y p);
+            let same = rel_among _ nodes others same_nodes x y p in
+            grind (arith, at_among nodes others x y p, part_from_same, has_at);
         records_paired = λ x y p.
-            let at = at_among records targets x y p in
-            part_from_same _ _ (here.records_closed x (has_at records at.0 x at.1))
-            (there.records_closed y (has_at targets at.0 y at.2))
-            (rel_among _ records targets same_records x y p);
+            let same = rel_among _ records targets same_records x y p in
+            grind (arith, at_among records targets x y p, part_from_same, has_at);
         held_paired = held_from_same s.held t.held h g (ap (λ p. p.held) e);
       }

@@ -7,32 +7,17 @@ use Rattle.tree_machine.specs.declared.search_order.Shape.TheVariants.{Leaf, Int
 use Rattle.tree_machine.specs.SearchOrder.{IsNodeOrdered, IsOrderedWithin, IsOrdered, end_of}
 
 module _ (shapes : ℕ → Option Shape) where
-  apart_node : (levels : ℕ) → ((low high x : ℕ) → IsOrderedWithin shapes levels low high x → low < high)
-      → (low high : ℕ) (shape : Option Shape) → IsNodeOrdered (IsOrderedWithin shapes levels) low high shape
-      → low < high
-  apart_node levels f low high None o = absurd o
-  apart_node levels f low high (Some (Leaf k)) o = omega arith
-  apart_node levels f low high (Some (Internal m l r)) o = grind arith
-
   -- what is in order has a key between its bounds
   pub apart : (levels low high x : ℕ) → IsOrderedWithin shapes levels low high x → low < high
   apart zero low high x h = absurd h
-  apart (suc levels) low high x h = apart_node levels (apart levels) low high (shapes x) h
-
-  more_node : (A B : ℕ → ℕ → ℕ → Type 0) → ((low high x : ℕ) → A low high x → B low high x)
-      → (low high : ℕ) (shape : Option Shape) → IsNodeOrdered A low high shape → IsNodeOrdered B low high shape
-  more_node A B f low high None o = o
-  more_node A B f low high (Some (Leaf k)) o = o
-  more_node A B f low high (Some (Internal m l r)) o = (f low (min m high) l o.0, f (max m low) high r o.1)
+  apart (suc levels) low high x h = grind (arith, apart levels)
 
   -- more levels do no harm
   pub more_levels : (levels more low high x : ℕ) → levels ≤ more → IsOrderedWithin shapes levels low high x
       → IsOrderedWithin shapes more low high x
   more_levels zero more low high x le h = absurd h
   more_levels (suc levels) zero low high x le h = absurd (omega arith)
-  more_levels (suc levels) (suc more) low high x le h =
-      more_node (IsOrderedWithin shapes levels) (IsOrderedWithin shapes more)
-      (λ low high x. more_levels levels more low high x (omega arith)) low high (shapes x) h
+  more_levels (suc levels) (suc more) low high x le h = grind (arith, more_levels levels more)
 
   pub of_node : (levels low high x : ℕ) (shape : Option Shape) → shapes x ≡ shape
       → IsNodeOrdered (IsOrderedWithin shapes levels) low high shape → IsOrderedWithin shapes (suc levels) low high x

@@ -4,7 +4,7 @@ use Rattle.std.proofs.Common.{arith}
 use Rattle.std.proofs.lemmas.Bool.Decides.{nat_tests}
 use Rattle.tree_machine.specs.declared.search_order.Shape.{Shape}
 use Rattle.tree_machine.specs.declared.search_order.Shape.TheVariants.{Leaf, Internal}
-use Rattle.tree_machine.specs.SearchOrder.{IsNodeOrdered, IsOrderedWithin, KeepsSearchOrder}
+use Rattle.tree_machine.specs.SearchOrder.{IsOrderedWithin, KeepsSearchOrder}
 
 -- no node in both, or the same kind and key, and children that P pairs, side by side
 abbrev pub AreShapesPaired : (ℕ → ℕ → Type 0) → Option Shape → Option Shape → Type 0
@@ -14,14 +14,6 @@ AreShapesPaired P (Some (Internal k l r)) (Some (Internal j m s)) = (k ≡ j) ×
 AreShapesPaired P _ _ = ⊥
 
 module _ (P : ℕ → ℕ → Type 0) where
-  node_order : (A B : ℕ → ℕ → ℕ → Type 0) → ((low high x y : ℕ) → P x y → A low high x ↔ B low high y)
-      → (low high : ℕ) (a b : Option Shape) → AreShapesPaired P a b
-      → IsNodeOrdered A low high a ↔ IsNodeOrdered B low high b
-  node_order A B below low high None None h = ((λ o. o), (λ o. o))
-  node_order A B below low high (Some (Leaf k)) (Some (Leaf j)) h = grind arith
-  node_order A B below low high (Some (Internal k l r)) (Some (Internal j m s)) h = grind arith
-  node_order A B below low high _ _ h = absurd h
-
   module _ (shapes others : ℕ → Option Shape) (seen : (x y : ℕ) → P x y → AreShapesPaired P (shapes x) (others y)) where
     within_order : (levels low high x y : ℕ) → P x y → IsOrderedWithin shapes levels low high x
         ↔ IsOrderedWithin others levels low high y

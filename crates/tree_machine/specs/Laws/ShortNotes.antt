@@ -26,8 +26,7 @@ digits_fewer (suc k) (count ∷ counts) digits = grind (arith, nat_tests, digits
 -- the counts of any number are a short note
 pub counts_short : (n : ℕ) → is_short (counts_in n) ≡ true
 unfolding counts_in
-counts_short n =
-    grind (arith, nat_tests, n % 8 ∷ n / 8 % 8 ∷ n / 64 % 8 ∷ n / 512 % 8 ∷ [], short_of, length-take, digits_fewer)
+counts_short n = grind (arith, nat_tests, short_of, length-take, digits_fewer)
 
 -- ---- from a note to its number and back
 
