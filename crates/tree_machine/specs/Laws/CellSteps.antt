@@ -4,7 +4,7 @@ use Rattle.std.specs.Prelude.{slice_get, Option, nat_eq}
 use Rattle.std.specs.List.{AllZip, list_any}
 use Rattle.std.proofs.lemmas.Bool.Decides.{nat_tests}
 use Rattle.std.proofs.lemmas.List.Elements.{AllZip-push}
-use Rattle.tree_machine.specs.Cells.{Content, IsPairedOrNone, IsPairing, met, met_all, visited, met_in}
+use Rattle.tree_machine.specs.Cells.{Content, IsPairedOrNone, IsPairing, met, met_all, met_in}
 use Rattle.tree_machine.specs.Pairing.{IsOneToOne}
 
 -- a number is not another one
@@ -41,11 +41,9 @@ module _ (P : ℕ → ℕ → Type 0) (one : IsOneToOne P) where
 
 module _ (P : ℕ → ℕ → Type 0) (cells others : List Content) (roots targets : List ℕ)
     (h : IsPairing P cells roots others targets) where
-  visited_paired : (xs ys : List ℕ) → AllZip P xs ys → (r s : Option ℕ) → IsPairedOrNone P r s
-      → AllZip P (visited cells xs r) (visited others ys s)
-  visited_paired xs ys z r s p = grind (arith, met_all_paired P h.one_to_one, h.refs_paired)
-
   -- two walks go in lock step
   pub met_in_paired : (n : ℕ) → AllZip P (met_in cells roots n) (met_in others targets n)
   met_in_paired zero = h.roots_paired
-  met_in_paired (suc n) = visited_paired _ _ (met_in_paired n) _ _ (at_paired P _ _ n (met_in_paired n))
+  met_in_paired (suc n) =
+      let at = at_paired P (met_in cells roots n) (met_in others targets n) n (met_in_paired n) in
+      grind (arith, met_all_paired P h.one_to_one, h.refs_paired, met_in_paired n)

@@ -13,7 +13,7 @@ use Rattle.tree_machine.specs.declared.machine.Outcome.TheVariants.{Goes, Replie
 use Rattle.tree_machine.specs.declared.search_order.End.{End}
 use Rattle.tree_machine.specs.declared.search_order.Shape.{Shape}
 use Rattle.tree_machine.specs.Cells.{IsPairedOrNone}
-use Rattle.tree_machine.specs.Pairing.{Pairing, Extends, IsAmong, IsOneToOne, AreHeldPaired, AreOutcomesPaired}
+use Rattle.tree_machine.specs.Pairing.{Pairing, Extends, IsAmong, IsOneToOne, AreHeldPaired}
 use Rattle.tree_machine.specs.Pairing.{AreStepsPaired}
 use Rattle.tree_machine.specs.Parts.{Part, Parts, part_at, ArePartsPaired, IsPartsPairing, IsPartBelow}
 use Rattle.tree_machine.specs.Parts.{ArePartsInRange}
@@ -167,19 +167,7 @@ module _ {Place : Type 0} where
   place_of (Replies reply) = None
   place_of Astray = None
 
-  outcome_paired : (P : Place → Place → Type 0) (o : Outcome Place) → AreOutcomesPaired P o o
-      → AreHeldPaired P (place_of o) (place_of o)
-  outcome_paired P o h = grind arith
-
-  held_extends : (P Q : Place → Place → Type 0) → ((a b : Place) → P a b → Q a b) → (held : Option Place)
-      → AreHeldPaired P held held → AreHeldPaired Q held held
-  held_extends P Q f held h = grind arith
-
 module _ {Memory Place : Type 0} where
-  outcome_in : (rules : Rules Memory Place) (memory : Memory) (o : Outcome Place)
-      → IfSome (place_of o) (rules.IsPlaceInRange memory) → IsOutcomeInRange rules memory o
-  outcome_in rules memory o h = grind arith
-
   -- With IsWhole p memory that p pairs all of the memory: what is in range is paired with itself, what is paired whole
   -- is in range, and accesses keep a pairing whole. So they keep the memory in range, with what the outcome names and
   -- what another thread holds.
@@ -209,12 +197,9 @@ module _ {Memory Place : Type 0} where
       self_paired memory held h (All-from_recursion (IsIn memory) held (at, (beside, tt))) in
       let s = act_whole op self.0 place place memory memory self.1 self.2 self.3.0 in
       let q = s.0.then in
-      let more =
-      held_extends (rules.pairs.places self.0) (rules.pairs.places q)
-      (λ a b. extend self.0 q a b s.0.extends) other self.3.1.0 in
       let now = place_of after.1 ∷ other ∷ [] in
       let kept =
       whole_in_range q after.0 after.0 now now s.1 s.0.memories_paired
-      (outcome_paired (rules.pairs.places q) after.1 s.0.outcomes_paired, (more, tt)) in
+      (grind (arith, s.0.outcomes_paired, self.3.1.0, extend self.0 q, s.0.extends)) in
       let places = recursion_from_All (IsIn after.0) now kept.1 in
-      grind (arith, outcome_in rules after.0 after.1 places.0)
+      grind arith

@@ -10,7 +10,6 @@ use Rattle.std.proofs.lemmas.List.Elements.{AllZip-get_or, length_all_zip}
 use Rattle.std.proofs.lemmas.Option.{IfSome_then, slice_get-get_or, slice_get-map, unwrap_or-slice_get}
 use Rattle.std.proofs.lemmas.Bool.Decides.{nat_tests}
 use Rattle.tree_machine.specs.Cells.{Content, content_at, IsPairedOrNone, IsPairing, IsRooted}
-use Rattle.tree_machine.specs.Pairing.{IsOneToOne}
 use Rattle.tree_machine.specs.Parts.{Part, Parts, part_at, ArePartsPaired, IsPartsPairing, IsPartBelow, ArePartsInRange}
 use Rattle.tree_machine.specs.Parts.{no_part, part_cell, parts_graph, parts_held}
 use Rattle.tree_machine.specs.Laws.CellLists.{content_front, content_back, zip_join}
@@ -105,18 +104,6 @@ pub record AreCellsPaired (P : ℕ → ℕ → Type 0) (c d : Content) : Type 0 
   pub facts : c.facts ≡ d.facts
   pub refs : AllZip (IsPairedOrNone P) c.refs d.refs
 
-or_none_map : (P Q : ℕ → ℕ → Type 0) (f g : ℕ → ℕ) → ((x y : ℕ) → P x y → Q (f x) (g y)) → (r s : Option ℕ)
-    → IsPairedOrNone P r s → IsPairedOrNone Q (option_map f r) (option_map g s)
-or_none_map P Q f g h r s p = grind arith
-
-or_none_weaker : (P Q : ℕ → ℕ → Type 0) → ((x y : ℕ) → P x y → Q x y) → (r s : Option ℕ) → IsPairedOrNone P r s
-    → IsPairedOrNone Q r s
-or_none_weaker P Q h r s p = grind arith
-
-part_from_zip : (Q : Part → Part → Type 0) (ps qs : List Part) → AllZip Q ps qs → (i : ℕ) → i < length ps
-    → Q (part_at ps i) (part_at qs i)
-part_from_zip Q ps qs z i l = grind (arith, nat_tests, unwrap_or-slice_get, AllZip-get_or)
-
 -- P pairs numbers below n with numbers below m, and Q pairs those from there on
 abbrev pub BelowOrBehind : ℕ → ℕ → (ℕ → ℕ → Type 0) → (ℕ → ℕ → Type 0) → ℕ → ℕ → Type 0
 BelowOrBehind n m P Q x y = ((x < n) × (y < m) × P x y) ⊎ ((n ≤ x) × (m ≤ y) × Q (x - n) (y - m))
@@ -134,12 +121,6 @@ module _ (P R : ℕ → ℕ → Type 0) (s t : Parts) where
     pub held_long : length s.held ≡ length t.held
     held_long = length_all_zip (ArePartsPaired P R) s.held t.held h.held_paired
 
-    paired_one : IsOneToOne Paired
-    paired_one = grind arith
-
-    paired_range : (x y : ℕ) → Paired x y → (x < length (all_cells s)) × (y < length (all_cells t))
-    paired_range x y p = grind (arith, length-cells s, length-cells t, held_long)
-
     pub paired_node : (x y : ℕ) → P x y → Paired x y
     paired_node x y p = let r = h.nodes_in_range x y p in inl (r.0, r.1, p)
 
@@ -149,28 +130,20 @@ module _ (P R : ℕ → ℕ → Type 0) (s t : Parts) where
     cells_paired : (a b : Part) → ArePartsPaired P R a b
         → AreCellsPaired Paired (part_cell (length s.nodes) a) (part_cell (length t.nodes) b)
     cells_paired a b k =
-        grind (arith, length_all_zip, zip_join, AllZip-weaker, or_none_weaker, paired_node, map_zip, or_none_map)
+        grind (arith, length_all_zip, zip_join, AllZip-weaker, paired_node, map_zip, paired_record)
 
     paired_cells : (x y : ℕ) → Paired x y
         → AreCellsPaired Paired (content_at (all_cells s) x) (content_at (all_cells t) y)
     paired_cells x y (inl (l, k, p)) = rw (node_at s x l, node_at t y k) (cells_paired _ _ (h.nodes_paired x y p))
     paired_cells x y (inr (l, k, inl (i, j, p))) =
-        let e : length s.nodes + (x - length s.nodes) ≡ x = omega arith in
-        let f : length t.nodes + (y - length t.nodes) ≡ y = omega arith in
-        rw (← e, ← f, record_at s _ i, record_at t _ j) (cells_paired _ _ (h.records_paired _ _ p))
+        grind (arith, record_at s (x - length s.nodes), record_at t (y - length t.nodes), h.records_paired _ _ p, cells_paired)
     paired_cells x y (inr (l, k, inr (g, j, p))) =
         let a = x - length s.nodes - length s.records in
         let e : length (parts_graph s) + a ≡ x = omega (arith, length-parts_graph s) in
         let f : length (parts_graph t) + a ≡ y = omega (arith, length-parts_graph t) in
-        grind (arith, held_at, held_long, cells_paired, part_from_zip)
+        grind (arith, held_at, held_long, cells_paired, unwrap_or-slice_get, AllZip-get_or)
 
     -- paired parts are paired cells, from all roots that are paired
     pub cells_pairing : (roots targets : List ℕ) → AllZip Paired roots targets
         → IsPairing Paired (all_cells s) roots (all_cells t) targets
-    cells_pairing roots targets z = record {
-      one_to_one = paired_one;
-      in_range = paired_range;
-      roots_paired = z;
-      facts_equal = λ x y p. (paired_cells x y p).facts;
-      refs_paired = λ x y p. (paired_cells x y p).refs;
-    }
+    cells_pairing roots targets z = grind (arith, length-cells s, length-cells t, held_long, paired_cells)

@@ -143,8 +143,7 @@ module _ (fixed : ℕ) (s t : Parts) (nodes records others targets : List ℕ) (
       → AllByRecursion (IsPartMet others targets) qs
       → map (renamed_part nodes records) ps ≡ map (renamed_part others targets) qs → AllZip (ArePartsPaired P R) ps qs
   held_from_same [] [] h g e = tt
-  held_from_same (p ∷ ps) (q ∷ qs) h g e =
-      (part_from_same p q h.0 g.0 (cc), held_from_same ps qs h.1 g.1 (cc))
+  held_from_same (p ∷ ps) (q ∷ qs) h g e = grind (arith, part_from_same p q h.0 g.0, held_from_same ps qs h.1 g.1)
   held_from_same _ _ h g e = cc
 
   pub paired_from_same : AllByRecursion (IsPartMet nodes records) s.held

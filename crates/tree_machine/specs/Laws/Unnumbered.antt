@@ -2,14 +2,11 @@
 use Rattle.std.specs.Prelude.{◌≡◌, List, [], ◌∷◌, Option, refl, ◌↔◌}
 use Rattle.std.specs.List.{AllZip}
 use Rattle.std.proofs.Common.{arith, subst, sym}
-use Rattle.tree_machine.specs.Pairing.{AreOutcomesPaired, AreHeldPaired, AreAlike, ArePairsLawful}
+use Rattle.tree_machine.specs.Pairing.{AreHeldPaired, AreAlike, ArePairsLawful}
 use Rattle.tree_machine.specs.Unnumbered.{equal_pairs}
 use Rattle.tree_machine.specs.declared.machine.Outcome.{Outcome}
 
 module _ {Place : Type 0} where
-  same_outcome : (outcome : Outcome Place) → AreOutcomesPaired ◌≡◌ outcome outcome
-  same_outcome outcome = grind arith
-
   held_paired : (held : List (Option Place)) → AllZip (AreHeldPaired ◌≡◌) held held
   held_paired [] = tt
   held_paired (place ∷ held) = grind (arith, held_paired held)
@@ -31,7 +28,7 @@ module _ {Memory Place : Type 0} where
       then = p;
       extends = record { nodes = λ _ _ h. h; records = λ _ _ h. h };
       memories_paired = λ i. (act op (at i) (same i)).0;
-      outcomes_paired = subst (AreOutcomesPaired ◌≡◌ _) (λ i. (act op (at i) (same i)).1) (same_outcome _);
+      outcomes_paired = grind arith;
     };
   }
 
