@@ -1,14 +1,13 @@
 -- Canonical parts: they can be paired with the parts that they come from, and are equal exactly where parts can be.
 use Rattle.std.proofs.Common.{◌≡◌, ℕ, ◌+◌, ◌<◌, ◌≤◌, List, [], ◌∷◌, ◌++◌, map, length, ◌∙◌, ap, subst}
 use Rattle.std.proofs.Common.{append_assoc, append-nil, arith, length-append}
-use Rattle.std.specs.Prelude.{Option, nat_eq}
-use Rattle.std.specs.List.{All, AllByRecursion, IsDistinct}
+use Rattle.std.specs.Prelude.{Option}
+use Rattle.std.specs.List.{All, AllByRecursion}
 use Rattle.std.specs.Option.{option_map}
 use Rattle.std.proofs.lemmas.List.{length-map}
 use Rattle.std.proofs.lemmas.List.Elements.{recursion_from_All, All-from_recursion}
 use Rattle.std.proofs.lemmas.List.Folds.{list_any-append}
 use Rattle.std.proofs.Math.Bool.{or-true}
-use Rattle.std.proofs.lemmas.Bool.Decides.{nat_tests}
 use Rattle.tree_machine.specs.Cells.{content_at, IsRooted, order_of}
 use Rattle.tree_machine.specs.Pairing.{IsAmong}
 use Rattle.tree_machine.specs.Graphs.{numbers_from}
@@ -55,11 +54,7 @@ roots_behind s nodes records =
 first_nodes : (s : Parts) (order nodes records behind : List ℕ)
     → order ≡ as_cells (length s.nodes) nodes records ++ behind → AllByRecursion (λ x. x < length s.nodes) nodes
     → Extends nodes (nodes_of s order)
-first_nodes s order nodes records behind is below = grind (arith, nat_tests, nodes_first)
-
--- what is met is in range
-met_distinct_in : {n : ℕ} (xs : List ℕ) → IsDistinct nat_eq xs → AllByRecursion (λ x. x < n) xs → AreDistinctIn 0 n xs
-met_distinct_in {n} xs distinct below = grind (arith, nat_tests, All-from_recursion)
+first_nodes s order nodes records behind is below = grind (arith, nodes_first)
 
 module _ (fixed : ℕ) (s : Parts) (h : ArePartsInRange fixed s) where
   -- what a walk meets names only what it meets
@@ -129,8 +124,9 @@ module _ (fixed : ℕ) (s : Parts) (h : ArePartsInRange fixed s) where
         let held = length (parts_held s) in
         let long : m ≡ n + length s.records = length-parts_graph s in
         let more : length (all_cells s) ≡ m + held = length-append (parts_graph s) (parts_held s) in
-        let below : AreDistinctIn 0 n nodes = met_distinct_in nodes met.nodes_distinct met.nodes_below in
-        let raised = distinct_in_raised n _ records (met_distinct_in records met.records_distinct met.records_below) in
+        let below : AreDistinctIn 0 n nodes = grind (arith, All-from_recursion) in
+        let beneath : AreDistinctIn 0 (length s.records) records = grind (arith, All-from_recursion) in
+        let raised = distinct_in_raised n _ records beneath in
         let graph = distinct_in_join 0 n n _ nodes _ (omega arith) below raised in
         let roots =
         distinct_in_join 0 _ m _ (as_cells n nodes records) _ (omega arith) graph (distinct_in_row m held) in
@@ -152,7 +148,7 @@ module _ (fixed : ℕ) (s : Parts) (h : ArePartsInRange fixed s) where
 
     pub records_extended : Extends records
         (records_met (length s.nodes) (length s.records) (order_behind nodes records s))
-    records_extended = grind (arith, nat_tests, begins, records_first)
+    records_extended = grind (arith, begins, records_first)
 
     behind_met : AreMet fixed s (nodes_of s all) (records_of s all)
     behind_met =

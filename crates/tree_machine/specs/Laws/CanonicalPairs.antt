@@ -1,7 +1,6 @@
 -- Canonical parts of two states.
 use Rattle.std.proofs.Common.{◌≡◌, ℕ, ◌-◌, ◌↔◌, List, length, refl, arith}
 use Rattle.std.specs.List.{AllZip, zip}
-use Rattle.std.proofs.lemmas.Bool.Decides.{nat_tests}
 use Rattle.std.proofs.lemmas.List.{length-map}
 use Rattle.tree_machine.specs.Pairing.{IsAmong}
 use Rattle.tree_machine.specs.Graphs.{numbers_from}
@@ -22,20 +21,20 @@ module _ (P R : ℕ → ℕ → Type 0) (fixed : ℕ) (s t : Parts) (h : ArePart
   -- both are nodes that P pairs, or neither is a node
   nodes_apart : (x y : ℕ) → Paired P R s t x y
       → PassAlike (is_node (length s.nodes)) (is_node (length t.nodes)) P x y
-  nodes_apart x y q = grind (arith, nat_tests)
+  nodes_apart x y q = grind (arith)
 
   -- both are records that R pairs, or neither is a record
   records_apart : (x y : ℕ) → Paired P R s t x y
       → PassAlike (is_record (length s.nodes) (length s.records)) (is_record (length t.nodes) (length t.records))
       (λ x y. R (x - length s.nodes) (y - length t.nodes)) x y
-  records_apart x y q = grind (arith, nat_tests)
+  records_apart x y q = grind (arith)
 
   -- orders that are paired have paired nodes and paired records
   split_pairs : (xs ys : List ℕ) → AllZip (Paired P R s t) xs ys
       → AllZip P (nodes_met (length s.nodes) xs) (nodes_met (length t.nodes) ys)
       × AllZip R (records_met (length s.nodes) (length s.records) xs)
       (records_met (length t.nodes) (length t.records) ys)
-  split_pairs xs ys z = grind (arith, nat_tests, filter_zip, nodes_apart, map_zip, records_apart)
+  split_pairs xs ys z = grind (arith, filter_zip, nodes_apart, map_zip, records_apart)
 
   -- what comes in front is paired, like by like
   pub fronts_paired : AllZip P (front_nodes fixed s) (front_nodes fixed t)

@@ -11,7 +11,6 @@ use Rattle.tree_machine.specs.Cells.{Content, IsRooted, content_at, met_all, vis
 use Rattle.tree_machine.specs.Graphs.{numbers_from}
 use Rattle.tree_machine.specs.Laws.CellOrder.{IsOrder, met_in_order, met_in_stable}
 use Rattle.tree_machine.specs.Laws.CellPlaces.{has_at}
-use Rattle.std.proofs.lemmas.Bool.Decides.{nat_tests}
 use Rattle.tree_machine.specs.Laws.CellSteps.{same_tests}
 
 -- ---- lists end to end
@@ -68,7 +67,7 @@ distinct_in_join a b c d xs ys rise h g = record {
         let first = All-head (λ x. x < b) x xs below in
         let apart =
         All-append (λ y. nat_eq x y ≡ false) xs ys (All-from_recursion _ xs distinct.0)
-        (λ k e l. let there = g.within k e l in grind (arith, nat_tests)) in
+        (λ k e l. let there = g.within k e l in grind (arith)) in
         (recursion_from_All _ (xs ++ ys) apart, go xs distinct.1 (All-tail (λ x. x < b) x xs below))
 
 pub distinct_in_row : (a n : ℕ) → AreDistinctIn a (a + n) (numbers_from a n)
@@ -79,7 +78,7 @@ distinct_in_row a n =
     go : (a n : ℕ) → IsDistinct nat_eq (numbers_from a n)
     go a zero = tt
     go a (suc n) =
-        let apart = numbers_all (λ x. nat_eq a x ≡ false) (suc a) n (λ x l k. grind (arith, nat_tests)) in
+        let apart = numbers_all (λ x. nat_eq a x ≡ false) (suc a) n (λ x l k. grind (arith)) in
         (recursion_from_All _ _ apart, go (suc a) n)
 
 -- distinct numbers stay distinct under a map that is one to one among them
@@ -113,7 +112,7 @@ module _ (graph held : List Content) (roots : List ℕ) (h : IsRooted graph root
 
   met_in_front : (n : ℕ) → met_in (graph ++ held) roots n ≡ met_in graph roots n
   met_in_front zero = refl
-  met_in_front (suc n) = grind (arith, nat_tests, met_in_front n, visited_front, met_in_order)
+  met_in_front (suc n) = grind (arith, met_in_front n, visited_front, met_in_order)
 
   pub order_front : order_of (graph ++ held) roots ≡ order_of graph roots
-  order_front = grind (arith, nat_tests, length-append, met_in_front, met_in_stable)
+  order_front = grind (arith, length-append, met_in_front, met_in_stable)

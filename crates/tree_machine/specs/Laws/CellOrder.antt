@@ -5,7 +5,6 @@ use Rattle.std.specs.Prelude.{slice_get, Option, Some, None, nat_eq, ⊤, IfSome
 use Rattle.std.specs.Cmp.{IsEquivalence}
 use Rattle.std.specs.List.{list_any, AllByRecursion, IsDistinct}
 use Rattle.std.proofs.lemmas.Bool.{cases_lt, cond_both, eq-eqb}
-use Rattle.std.proofs.lemmas.Bool.Decides.{nat_tests}
 use Rattle.std.proofs.lemmas.Cmp.{nat_eq_equiv}
 use Rattle.std.proofs.lemmas.List.Elements.{recursion_from_All, All-get_or}
 use Rattle.std.proofs.lemmas.List.Folds.{list_any-append}
@@ -60,10 +59,10 @@ get_extends {xs} e k x h = rw e.is (get_append xs e.rest k x h)
 -- ---- one more cell
 
 pub met_extends : (order : List ℕ) (x : ℕ) → Extends order (met order x)
-met_extends order x = grind (arith, nat_tests, cond_both, extends_itself)
+met_extends order x = grind (arith, cond_both, extends_itself)
 
 pub met_has : (order : List ℕ) (x : ℕ) → Has (met order x) x
-met_has order x = grind (arith, nat_tests, cond_both, list_any-append, has_itself, or-true)
+met_has order x = grind (arith, cond_both, list_any-append, has_itself, or-true)
 
 pub met_all_extends : (refs : List (Option ℕ)) (order : List ℕ) → Extends order (met_all order refs)
 met_all_extends [] order = extends_itself order
@@ -81,7 +80,7 @@ pub record IsOrder (n : ℕ) (order : List ℕ) : Type 0 where
   pub below : (x : ℕ) → Has order x → x < n
 
 pub met_order : (n : ℕ) (order : List ℕ) (x : ℕ) → x < n → IsOrder n order → IsOrder n (met order x)
-met_order n order x l h = grind (arith, nat_tests, cond_both, IsDistinct-push, nat_equivalence, list_any-append)
+met_order n order x l h = grind (arith, cond_both, IsDistinct-push, nat_equivalence, list_any-append)
 
 -- each ref is none or below n
 abbrev pub RefsBelow : ℕ → List (Option ℕ) → Type 0
@@ -101,11 +100,11 @@ length-order n order h = length-le_from_distinct_below order n h.distinct h.belo
 -- what holds of each element holds of one that is there
 pub all_has : (P : ℕ → Type 0) (xs : List ℕ) → AllByRecursion P xs → (x : ℕ) → Has xs x → P x
 all_has P [] h x g = cc
-all_has P (y ∷ xs) h x g = grind (arith, nat_tests, h.0, all_has P xs h.1 x)
+all_has P (y ∷ xs) h x g = grind (arith, h.0, all_has P xs h.1 x)
 
 module _ (cells : List Content) (roots : List ℕ) (h : IsRooted cells roots) where
   refs_below : (x : ℕ) → RefsBelow (length cells) (content_at cells x).refs
-  refs_below x = grind (arith, nat_tests, cases_lt, recursion_from_All, unwrap_or-slice_get, All-get_or, slice_get_past)
+  refs_below x = grind (arith, cases_lt, recursion_from_All, unwrap_or-slice_get, All-get_or, slice_get_past)
 
   visited_order : (order : List ℕ) (r : Option ℕ) → IsOrder (length cells) order
       → IsOrder (length cells) (visited cells order r)

@@ -3,7 +3,7 @@ use Rattle.std.proofs.Common.{◌≡◌, ℕ, zero, suc, false, List, [], ◌∷
 use Rattle.std.specs.Prelude.{slice_get, Option, Some, nat_eq}
 use Rattle.std.specs.List.{AllZip, zip, IsDistinct}
 use Rattle.std.specs.Option.{option_and_then}
-use Rattle.std.proofs.lemmas.Bool.Decides.{eqb_tells, nat_tests}
+use Rattle.std.proofs.lemmas.Bool.Decides.{eqb_tells}
 use Rattle.std.proofs.lemmas.Map.Keys.{IsDistinct-head, IsDistinct-tail, any_passes_from_place}
 use Rattle.tree_machine.specs.Cells.{IsPairedOrNone, place_in}
 use Rattle.tree_machine.specs.Pairing.{IsOneToOne, IsAmong}
@@ -36,8 +36,8 @@ place_from_has (y ∷ xs) x h =
 
 pub get_place : (xs : List ℕ) (x k : ℕ) → place_in xs x ≡ Some k → slice_get xs k ≡ Some x
 get_place [] x k h = cc
-get_place (y ∷ xs) x zero h = grind (arith, nat_tests)
-get_place (y ∷ xs) x (suc k) h = grind (arith, nat_tests, get_place xs x k)
+get_place (y ∷ xs) x zero h = grind (arith)
+get_place (y ∷ xs) x (suc k) h = grind (arith, get_place xs x k)
 
 pub has_at : (xs : List ℕ) (k x : ℕ) → slice_get xs k ≡ Some x → Has xs x
 has_at xs k x h = any_passes_from_place (nat_eq x) xs k x h (has_itself x)
@@ -64,10 +64,10 @@ rel_among P xs ys z x y h = let r = at_among xs ys x y h in rw (r.1, r.2) at (at
 -- in a list of distinct numbers each has one place
 pub place_at : (xs : List ℕ) → IsDistinct nat_eq xs → (k x : ℕ) → slice_get xs k ≡ Some x → place_in xs x ≡ Some k
 place_at [] d k x h = cc
-place_at (y ∷ xs) d zero x h = grind (arith, nat_tests)
+place_at (y ∷ xs) d zero x h = grind (arith)
 place_at (y ∷ xs) d (suc k) x h =
     let apart = all_has (λ z. nat_eq y z ≡ false) xs (IsDistinct-head nat_eq y xs d) x (has_at xs k x h) in
-    grind (arith, nat_tests, place_at xs (IsDistinct-tail nat_eq y xs d) k x h)
+    grind (arith, place_at xs (IsDistinct-tail nat_eq y xs d) k x h)
 
 -- places of distinct numbers, side by side, are pairs one to one
 pub zip_one : (xs ys : List ℕ) → IsDistinct nat_eq xs → IsDistinct nat_eq ys → IsOneToOne (IsAmong (zip xs ys))

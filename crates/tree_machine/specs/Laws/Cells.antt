@@ -4,7 +4,6 @@ use Rattle.std.proofs.Common.{arith, add_comm}
 use Rattle.std.specs.Prelude.{slice_get, Option, Some, None}
 use Rattle.std.specs.List.{AllZip, zip}
 use Rattle.std.specs.Option.{option_and_then}
-use Rattle.std.proofs.lemmas.Bool.Decides.{nat_tests}
 use Rattle.tree_machine.specs.Cells.{Content, IsPairedOrNone, IsPairing, CanBePaired, IsRooted, met_in, content_at}
 use Rattle.tree_machine.specs.Cells.{place_in, renamed, order_of, canonical}
 use Rattle.tree_machine.specs.Pairing.{IsAmong}
@@ -99,7 +98,7 @@ module _ (cells others : List Content) (roots targets : List ℕ) (rooted : IsRo
 
   -- two results are equal exactly if some set of pairs is a pairing
   pub canonical_exactly : (canonical cells roots ≡ canonical others targets) ↔ CanBePaired cells roots others targets
-  canonical_exactly = grind (arith, nat_tests, pairing_from_equal, equal_from_pairing)
+  canonical_exactly = grind (arith, pairing_from_equal, equal_from_pairing)
 
 -- the answer of a walk that met this order
 pub answer_is : (cells : List Content) (roots order : List ℕ) (answer : List Content) → order ≡ order_of cells roots
@@ -111,4 +110,4 @@ pub answer_exactly : (cells others : List Content) (roots targets order : List �
     → IsRooted others targets → length roots ≡ length targets →
     (answer ≡ canonical others targets) ↔ CanBePaired cells roots others targets
 answer_exactly cells others roots targets order answer e h rooted aimed l =
-    grind (arith, nat_tests, answer_is cells roots order answer e h, canonical_exactly)
+    grind (arith, answer_is cells roots order answer e h, canonical_exactly)

@@ -3,7 +3,6 @@ use Rattle.std.proofs.Common.{◌≡◌, ℕ, List, [], ◌∷◌, ◌++◌, map
 use Rattle.std.proofs.Common.{refl, sym, ap, arith, append_assoc, append-nil, length-append}
 use Rattle.std.specs.Prelude.{Option}
 use Rattle.std.proofs.lemmas.List.{length-map, take-append-drop}
-use Rattle.std.proofs.lemmas.Bool.Decides.{nat_tests}
 use Rattle.tree_machine.specs.Cells.{Content}
 use Rattle.tree_machine.specs.Parts.{Part, Parts}
 use Rattle.tree_machine.specs.Flat.{cell_code, graph_code, left_code, number_code, part_codes, part_content}
@@ -38,7 +37,7 @@ cell_split c d xs ys e =
 -- ---- parts
 
 same_part : (p q : Part) → part_content p ≡ part_content q → p ≡ q
-same_part p q e = grind (arith, nat_tests, ap (λ (c : Content). c.facts) e, halves)
+same_part p q e = grind (arith, ap (λ (c : Content). c.facts) e, halves)
 
 -- equally many parts in front of other bytes
 parts_split : (ps qs : List Part) (xs ys : List ℕ) → length ps ≡ length qs → part_codes ps ++ xs ≡ part_codes qs ++ ys
@@ -52,11 +51,7 @@ parts_split ps qs xs ys l e =
 graph_split : (ns rs ms ss : List Part) (xs ys : List ℕ) → graph_code ns rs ++ xs ≡ graph_code ms ss ++ ys
     → (ns ≡ ms) × (rs ≡ ss) × (xs ≡ ys)
 graph_split ns rs ms ss xs ys e =
-    let nodes = number_read (length ns) (length ms) _ _ (simp append_assoc at e) in
-    let records = number_read (length rs) (length ss) _ _ nodes.1 in
-    let split = parts_split (ns ++ rs) (ms ++ ss) xs ys (simp length-append (omega arith)) records.1 in
-    let both = halves ns ms rs ss nodes.0 split.0 in
-    (both.0, both.1, split.1)
+    grind (arith, append_assoc, number_read, parts_split (ns ++ rs) (ms ++ ss), halves ns ms rs ss, length-append)
 
 graph_is_some : (ns rs : List Part) → [] ≡ graph_code ns rs → ⊥
 graph_is_some ns rs e = omega (arith, simp length-append at (ap length e))
@@ -118,4 +113,4 @@ module _ {Memory Place : Type 0} (front_code : Front → Memory → List ℕ)
   cut_tells front memory other held others many e = grind (arith, own_cut other others)
 
   pub own_tells : TellsWholly own_code own_code
-  own_tells memory other held others many e = grind (arith, nat_tests, own_cut memory held, cut_tells)
+  own_tells memory other held others many e = grind (arith, own_cut memory held, cut_tells)

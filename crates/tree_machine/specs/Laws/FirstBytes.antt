@@ -1,7 +1,6 @@
 -- The first bytes one by one, and those behind them.
 use Rattle.std.proofs.Common.{◌≡◌, ℕ, ◌-◌, ◌≤◌, List, ◌∷◌, length, take, drop, get_or, ap, sym, arith}
 use Rattle.std.proofs.lemmas.List.{take_all}
-use Rattle.std.proofs.lemmas.Bool.Decides.{nat_tests}
 
 pub first_two : (bytes : List ℕ) → 2 ≤ length bytes
     → bytes ≡ get_or bytes 0 0 ∷ get_or bytes 1 0 ∷ take (length bytes - 2) (drop 2 bytes)
@@ -29,5 +28,5 @@ first_six _ h = absurd (omega arith)
 pub first_seven : (bytes : List ℕ) → 7 ≤ length bytes
     → bytes ≡ get_or bytes 0 0 ∷ get_or bytes 1 0 ∷ get_or bytes 2 0 ∷ get_or bytes 3 0 ∷ get_or bytes 4 0
     ∷ get_or bytes 5 0 ∷ get_or bytes 6 0 ∷ take (length bytes - 7) (drop 7 bytes)
-first_seven (a ∷ b ∷ c ∷ d ∷ e ∷ f ∷ g ∷ rest) h = grind (arith, nat_tests, take_all)
+first_seven (a ∷ b ∷ c ∷ d ∷ e ∷ f ∷ g ∷ rest) h = grind (arith, take_all)
 first_seven _ h = absurd (omega arith)

@@ -42,12 +42,12 @@ each_readable code readable _ _ xs ys l e = absurd (omega arith)
 -- the long code of facts and of how many references there are
 long_split : (fs gs : List ℕ) (r s : ℕ) (xs ys : List ℕ) → long_code fs r ++ xs ≡ long_code gs s ++ ys
     → (fs ≡ gs) × (r ≡ s) × (xs ≡ ys)
-long_split fs gs r s xs ys e = grind (arith, nat_tests, append_assoc, number_read, each_readable, number_split)
+long_split fs gs r s xs ys e = grind (arith, append_assoc, number_read, each_readable, number_split)
 
 pub facts_split : (fs gs : List ℕ) (r s : ℕ) (xs ys : List ℕ) → facts_code fs r ++ xs ≡ facts_code gs s ++ ys
     → (fs ≡ gs) × (r ≡ s) × (xs ≡ ys)
 facts_split [] [] r s xs ys e = long_split [] [] r s xs ys e
-facts_split [] (b ∷ ns) r s xs ys e = grind (arith, nat_tests, long_split [] (b ∷ ns) r s xs ys)
-facts_split (a ∷ ms) [] r s xs ys e = grind (arith, nat_tests, long_split (a ∷ ms) [] r s xs ys)
+facts_split [] (b ∷ ns) r s xs ys e = grind (arith, long_split [] (b ∷ ns) r s xs ys)
+facts_split (a ∷ ms) [] r s xs ys e = grind (arith, long_split (a ∷ ms) [] r s xs ys)
 facts_split (a ∷ ms) (b ∷ ns) r s xs ys e =
     grind (arith, nat_tests, each_readable number_code number_split ms ns xs ys, long_split (a ∷ ms) (b ∷ ns) r s xs ys)

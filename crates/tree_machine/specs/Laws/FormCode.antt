@@ -5,7 +5,6 @@ use Rattle.std.specs.Cmp.{IsEquivalence}
 use Rattle.std.specs.Cmp.Lexicographic.{pointwise}
 use Rattle.std.proofs.Common.{◌+◌, refl, arith, append_assoc}
 use Rattle.std.proofs.lemmas.Cmp.{lists_equiv}
-use Rattle.std.proofs.lemmas.Bool.Decides.{nat_tests}
 use Rattle.sched_program.specs.Exact.{IsExact}
 use Rattle.sched_program.specs.Laws.Exact.{nat_exact, list_exact}
 use Rattle.tree_machine.specs.Laws.CellOrder.{nat_equivalence}
@@ -58,13 +57,13 @@ astray_readable a b xs ys e = grind arith
 module _ {Form : Type 0} (code : Form → List ℕ) (readable : IsInjective code) where
   pub content_readable : IsInjective (content_code code)
   content_readable a b e =
-      grind (arith, nat_tests, list_readable, replies_readable, append_assoc, note_readable, astray_readable)
+      grind (arith, list_readable, replies_readable, append_assoc, note_readable, astray_readable)
 
   -- comparing bytes returns what comparing the forms returns
   pub content_same : (E : FormContent Form → FormContent Form → Bool) → IsExact E → IsEquivalence E
       → (a b : FormContent Form) → pointwise nat_eq (content_code code a) (content_code code b) ≡ E a b
   content_same E exact equivalence a b =
-      grind (arith, nat_tests, same_answer, content_readable, list_exact, nat_exact, lists_equiv, nat_equivalence)
+      grind (arith, same_answer, content_readable, list_exact, nat_exact, lists_equiv, nat_equivalence)
 
 -- equal bytes are of equal steps and contents
 pub state_pieces : {Machine Memory Place Form : Type 0} (code : Memory → List (Option Place) → List ℕ)

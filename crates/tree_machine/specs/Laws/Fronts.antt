@@ -10,7 +10,6 @@ use Rattle.std.proofs.lemmas.List.{length-map, length-take, length-take-le, take
 use Rattle.std.proofs.lemmas.List.Elements.{All-from_recursion, All-weaker, recursion_from_All}
 use Rattle.std.proofs.lemmas.List.Folds.{map_fixed}
 use Rattle.std.proofs.lemmas.Map.Steps.{length-le_from_distinct_below}
-use Rattle.std.proofs.lemmas.Bool.Decides.{nat_tests}
 use Rattle.tree_machine.specs.Cells.{place_in}
 use Rattle.tree_machine.specs.Pairing.{IsAmong}
 use Rattle.tree_machine.specs.Graphs.{numbers_from}
@@ -68,7 +67,7 @@ parts_in_row g a (suc n) (p ∷ ps) l h =
 -- nodes and records that are met are no more than there are
 met_within : (fixed : ℕ) (s : Parts) {nodes records : List ℕ} → AreMet fixed s nodes records
     → (length nodes ≤ length s.nodes) × (length records ≤ length s.records)
-met_within fixed s {nodes} {records} met = grind (arith, nat_tests, length-le_from_distinct_below, all_has)
+met_within fixed s {nodes} {records} met = grind (arith, length-le_from_distinct_below, all_has)
 
 -- ---- the front of canonical parts
 

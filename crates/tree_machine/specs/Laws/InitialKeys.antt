@@ -4,7 +4,6 @@ use Rattle.std.specs.Prelude.{◌≡◌, ◌≢◌, ℕ, zero, suc, ◌<◌, ◌
 use Rattle.std.specs.Prelude.{refl, Option, Some, None, All, AllPairs, slice_index_or}
 use Rattle.std.proofs.Common.{arith, sym, ◌∙◌, ap, subst, ◌⊎◌, inl, inr}
 use Rattle.std.proofs.lemmas.Bool.Decides.{leb_tells}
-use Rattle.std.proofs.lemmas.Bool.Decides.{nat_tests}
 use Rattle.sched_program.specs.Program.{IsUserKey}
 use Rattle.tree_machine.specs.declared.search_order.End.{End}
 use Rattle.tree_machine.specs.declared.search_order.Shape.{Shape}
@@ -119,7 +118,7 @@ module _ (before after : ℕ → Option Shape) (key : ℕ) (end : End) (put : Is
     root_grown : (levels m l r : ℕ) → before 0 ≡ Some (Internal m l r) → IsOrderedWithin before levels 0 103 0
         → key < 103 → end_of before key levels 0 0 ≡ end → IsGrown before after end (suc levels) 0 103 0
     root_grown zero m l r e o under ends = absurd o
-    root_grown (suc n) m l r e o under ends = grind (arith, nat_tests, descend, to_node)
+    root_grown (suc n) m l r e o under ends = grind (arith, descend, to_node)
 
 -- memories into which keys are inserted, one after the other
 module _ {Memory : Type 0} (shapes : Memory → ℕ → Option Shape) (count : Memory → ℕ) (put_in : Memory → ℕ → Memory)

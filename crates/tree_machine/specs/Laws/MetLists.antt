@@ -4,7 +4,7 @@ use Rattle.std.proofs.Common.{List, [], ◌∷◌, ◌++◌, map, length, refl, 
 use Rattle.std.specs.Prelude.{slice_get, Option, Some, nat_eq, nat_lt, nat_le}
 use Rattle.std.specs.List.{AllZip, AllByRecursion, filter, zip, IsDistinct}
 use Rattle.std.specs.Option.{option_and_then}
-use Rattle.std.proofs.lemmas.Bool.Decides.{Decides-eqb, nat_tests}
+use Rattle.std.proofs.lemmas.Bool.Decides.{Decides-eqb}
 use Rattle.std.proofs.lemmas.List.Kept.{AllPairs-filter}
 use Rattle.std.proofs.lemmas.Map.Made.{AllPairs-from_IsDistinct, IsDistinct-from_AllPairs}
 use Rattle.std.proofs.lemmas.Option.{slice_get_within}
@@ -82,50 +82,50 @@ abbrev pub is_record : ℕ → ℕ → ℕ → Bool
 is_record n r x = nat_le n x && nat_lt x (n + r)
 
 pub test_node : (n x : ℕ) → x < n → nat_lt x n ≡ true
-test_node n x l = grind (arith, nat_tests)
+test_node n x l = grind (arith)
 
 pub test_other : (n x : ℕ) → n ≤ x → nat_lt x n ≡ false
-test_other n x l = grind (arith, nat_tests)
+test_other n x l = grind (arith)
 
 pub test_record : (n r x : ℕ) → n ≤ x → x < n + r → (nat_le n x && nat_lt x (n + r)) ≡ true
-test_record n r x l k = grind (arith, nat_tests)
+test_record n r x l k = grind (arith)
 
 pub test_before : (n r x : ℕ) → x < n → (nat_le n x && nat_lt x (n + r)) ≡ false
-test_before n r x l = grind (arith, nat_tests)
+test_before n r x l = grind (arith)
 
 pub test_behind : (n r x : ℕ) → n + r ≤ x → (nat_le n x && nat_lt x (n + r)) ≡ false
-test_behind n r x l = grind (arith, nat_tests)
+test_behind n r x l = grind (arith)
 
 -- ---- the nodes and the records that are met
 
 module _ (n : ℕ) where
   pub node_has : (order : List ℕ) (x : ℕ) → Has (nodes_met n order) x → Has order x × (x < n)
   node_has [] x h = cc
-  node_has (y ∷ order) x h = grind (arith, nat_tests, node_has order x)
+  node_has (y ∷ order) x h = grind (arith, node_has order x)
 
   pub has_node : (order : List ℕ) (x : ℕ) → Has order x → x < n → Has (nodes_met n order) x
   has_node [] x h l = h
-  has_node (y ∷ order) x h l = grind (arith, nat_tests, has_node order x)
+  has_node (y ∷ order) x h l = grind (arith, has_node order x)
 
   pub nodes_below : (order : List ℕ) → AllByRecursion (λ x. x < n) (nodes_met n order)
   nodes_below [] = tt
-  nodes_below (x ∷ order) = grind (arith, nat_tests, nodes_below order)
+  nodes_below (x ∷ order) = grind (arith, nodes_below order)
 
   pub record_has : (order : List ℕ) (r y : ℕ) → Has (records_met n r order) y → Has order (n + y) × (y < r)
   record_has [] r y h = cc
-  record_has (x ∷ order) r y h = grind (arith, nat_tests, record_has order r y)
+  record_has (x ∷ order) r y h = grind (arith, record_has order r y)
 
   pub has_record : (order : List ℕ) (r y : ℕ) → Has order (n + y) → y < r → Has (records_met n r order) y
   has_record [] r y h l = h
-  has_record (x ∷ order) r y h l = grind (arith, nat_tests, has_record order r y)
+  has_record (x ∷ order) r y h l = grind (arith, has_record order r y)
 
   pub records_below : (order : List ℕ) (r : ℕ) → AllByRecursion (λ y. y < r) (records_met n r order)
   records_below [] r = tt
-  records_below (x ∷ order) r = grind (arith, nat_tests, records_below order r)
+  records_below (x ∷ order) r = grind (arith, records_below order r)
 
   kept_behind : (order : List ℕ) (r : ℕ) → AllByRecursion (λ x. n ≤ x) (filter (is_record n r) order)
   kept_behind [] r = tt
-  kept_behind (x ∷ order) r = grind (arith, nat_tests, kept_behind order r)
+  kept_behind (x ∷ order) r = grind (arith, kept_behind order r)
 
   pub records_distinct : (order : List ℕ) (r : ℕ) → IsDistinct nat_eq order → IsDistinct nat_eq (records_met n r order)
   records_distinct order r d = grind (arith, mapped_distinct, kept_behind, filter_distinct)
@@ -136,12 +136,12 @@ module _ (n r : ℕ) where
   pub nodes_first : (nodes records zs : List ℕ) → AllByRecursion (λ x. x < n) nodes
       → nodes_met n (as_cells n nodes records ++ zs) ≡ nodes ++ nodes_met n zs
   nodes_first [] [] zs h = refl
-  nodes_first [] (y ∷ records) zs h = grind (arith, nat_tests, nodes_first [] records zs h)
-  nodes_first (x ∷ nodes) records zs h = grind (arith, nat_tests, nodes_first nodes records zs h.1, h.0)
+  nodes_first [] (y ∷ records) zs h = grind (arith, nodes_first [] records zs h)
+  nodes_first (x ∷ nodes) records zs h = grind (arith, nodes_first nodes records zs h.1, h.0)
 
   pub records_first : (nodes records zs : List ℕ) → AllByRecursion (λ x. x < n) nodes
       → AllByRecursion (λ y. y < r) records
       → records_met n r (as_cells n nodes records ++ zs) ≡ records ++ records_met n r zs
   records_first [] [] zs h g = refl
-  records_first [] (y ∷ records) zs h g = grind (arith, nat_tests, records_first [] records zs h g.1, g.0)
-  records_first (x ∷ nodes) records zs h g = grind (arith, nat_tests, records_first nodes records zs h.1 g, h.0)
+  records_first [] (y ∷ records) zs h g = grind (arith, records_first [] records zs h g.1, g.0)
+  records_first (x ∷ nodes) records zs h g = grind (arith, records_first nodes records zs h.1 g, h.0)

@@ -5,7 +5,6 @@ use Rattle.std.specs.Prelude.{nat_eq, slice_get, Some, if◌then◌else◌}
 use Rattle.std.specs.Int.{bit_at}
 use Rattle.std.proofs.Math.Nat.{two-pow-succ}
 use Rattle.std.proofs.Math.Pow.{pow_mono}
-use Rattle.std.proofs.lemmas.Bool.Decides.{nat_tests}
 use Rattle.std.proofs.lemmas.Nat.{pow_pos}
 use Rattle.std.proofs.lemmas.Nat.Bits.{bit_at_lowest, bit_at-suc}
 use Rattle.tree_machine.specs.Packed.{replies_number, digits_of, replies_in}
@@ -20,7 +19,7 @@ replies_least (reply ∷ replies) = omega (arith, replies_least replies)
 pub number_of_digits : (most n : ℕ) → 0 < n → n < 2 * 2 ^ most → replies_number (digits_of most n) ≡ n
 number_of_digits zero n least below = omega arith
 number_of_digits (suc most) n least below =
-    grind (arith, nat_tests, two-pow-succ most, number_of_digits most (n / 2))
+    grind (arith, two-pow-succ most, number_of_digits most (n / 2))
 
 pub digits_of_number : (most : ℕ) (replies : List Bool) → length replies ≤ most
     → digits_of most (replies_number replies) ≡ replies
@@ -28,23 +27,23 @@ digits_of_number zero [] bounded = refl
 digits_of_number zero (reply ∷ replies) bounded = absurd (omega arith)
 digits_of_number (suc most) [] bounded = refl
 digits_of_number (suc most) (reply ∷ replies) bounded =
-    grind (arith, nat_tests, replies_least replies, digits_of_number most replies)
+    grind (arith, replies_least replies, digits_of_number most replies)
 
 -- ---- how many there are, and each of them
 
 -- a number from 2 ^ k on and below 2 * 2 ^ k has k digits below its leading one
 pub digits_length : (most k n : ℕ) → k ≤ most → 2 ^ k ≤ n → n < 2 * 2 ^ k → length (digits_of most n) ≡ k
 digits_length zero k n bounded reaches below = omega arith
-digits_length (suc most) zero n bounded reaches below = grind (arith, nat_tests)
+digits_length (suc most) zero n bounded reaches below = grind (arith)
 digits_length (suc most) (suc k) n bounded reaches below =
-    grind (arith, nat_tests, digits_length most k (n / 2), two-pow-succ k, pow_pos k)
+    grind (arith, digits_length most k (n / 2), two-pow-succ k, pow_pos k)
 
 -- each digit of a number is one of its bits
 pub digit_at : (most n i : ℕ) → i < length (digits_of most n)
     → slice_get (digits_of most n) i ≡ Some (nat_eq (bit_at n i) 1)
 digit_at zero n i within = absurd (omega arith)
-digit_at (suc most) n zero within = grind (arith, nat_tests, bit_at_lowest)
-digit_at (suc most) n (suc i) within = grind (arith, nat_tests, bit_at-suc, digit_at most (n / 2) i)
+digit_at (suc most) n zero within = grind (arith, bit_at_lowest)
+digit_at (suc most) n (suc i) within = grind (arith, bit_at-suc, digit_at most (n / 2) i)
 
 -- ---- one more reply
 
@@ -83,8 +82,6 @@ pub pushed : (n more count : ℕ) (reply : Bool) (old : List Bool) → replies_i
 unfolding replies_in
 pushed n more count reply old is least below bounded counted added =
     let now = old ++ reply ∷ [] in
-    let number : replies_number now ≡ n + more =
-    cc (one_reply_more old reply, replies_back n least below, is, counted, added) in
     let longer : length now ≤ 6 = omega (arith, length-append old (reply ∷ [])) in
     let power : 2 ^ length now ≤ 64 = pow_mono longer in
-    (omega (arith, replies_below now, number), cc (number, digits_of_number 6 now longer))
+    grind (arith, one_reply_more old reply, replies_back n least below, replies_below now, digits_of_number 6 now)

@@ -8,7 +8,6 @@ use Rattle.std.proofs.lemmas.List.{length-map}
 use Rattle.std.proofs.lemmas.List.Elements.{All-append, All-from_get_or, All-get_or, All-map, All-weaker}
 use Rattle.std.proofs.lemmas.List.Elements.{AllZip-get_or, length_all_zip}
 use Rattle.std.proofs.lemmas.Option.{IfSome_then, slice_get-get_or, slice_get-map, unwrap_or-slice_get}
-use Rattle.std.proofs.lemmas.Bool.Decides.{nat_tests}
 use Rattle.tree_machine.specs.Cells.{Content, content_at, IsPairedOrNone, IsPairing, IsRooted}
 use Rattle.tree_machine.specs.Parts.{Part, Parts, part_at, ArePartsPaired, IsPartsPairing, IsPartBelow, ArePartsInRange}
 use Rattle.tree_machine.specs.Parts.{no_part, part_cell, parts_graph, parts_held}
@@ -45,11 +44,11 @@ length-cells s = simp (length-append, length-map)
 -- nodes, records and what is held, among all cells
 pub node_at : (s : Parts) (x : ℕ) → x < length s.nodes
     → content_at (all_cells s) x ≡ part_cell (length s.nodes) (part_at s.nodes x)
-node_at s x l = grind (arith, nat_tests, content_front, length-parts_graph, length-map, content_map)
+node_at s x l = grind (arith, content_front, length-parts_graph, length-map, content_map)
 
 pub record_at : (s : Parts) (y : ℕ) → y < length s.records
     → content_at (all_cells s) (length s.nodes + y) ≡ part_cell (length s.nodes) (part_at s.records y)
-record_at s y l = grind (arith, nat_tests, content_front, length-parts_graph, length-map, content_back, content_map)
+record_at s y l = grind (arith, content_front, length-parts_graph, length-map, content_back, content_map)
 
 pub held_at : (s : Parts) (i : ℕ) → i < length s.held
     → content_at (all_cells s) (length (parts_graph s) + i) ≡ part_cell (length s.nodes) (part_at s.held i)
@@ -95,7 +94,7 @@ module _ (fixed : ℕ) (s : Parts) (h : ArePartsInRange fixed s) where
   -- distinct nodes and records are roots of the graph
   pub graph_rooted : (roots : List ℕ) → All (λ x. x < length (parts_graph s)) roots → IsDistinct nat_eq roots
       → IsRooted (parts_graph s) roots
-  graph_rooted roots range distinct = grind (arith, nat_tests, graph_below, length-parts_graph)
+  graph_rooted roots range distinct = grind (arith, graph_below, length-parts_graph)
 
 -- ---- paired parts
 
@@ -136,7 +135,7 @@ module _ (P R : ℕ → ℕ → Type 0) (s t : Parts) where
         → AreCellsPaired Paired (content_at (all_cells s) x) (content_at (all_cells t) y)
     paired_cells x y (inl (l, k, p)) = rw (node_at s x l, node_at t y k) (cells_paired _ _ (h.nodes_paired x y p))
     paired_cells x y (inr (l, k, inl (i, j, p))) =
-        grind (arith, record_at s (x - length s.nodes), record_at t (y - length t.nodes), h.records_paired _ _ p, cells_paired)
+        grind (arith, record_at s (x - length s.nodes), record_at t (y - length t.nodes), h.records_paired, cells_paired)
     paired_cells x y (inr (l, k, inr (g, j, p))) =
         let a = x - length s.nodes - length s.records in
         let e : length (parts_graph s) + a ≡ x = omega (arith, length-parts_graph s) in

@@ -1,7 +1,6 @@
 -- A machine whose memory and places are in parts: its forms are exact, and its codes tell and decode what they are of.
 use Rattle.std.specs.Prelude.{◌≡◌, ◌↔◌, ℕ, List, length, Option}
 use Rattle.std.proofs.Common.{arith, sym, ◌∙◌}
-use Rattle.std.proofs.lemmas.Bool.Decides.{nat_tests}
 use Rattle.tree_machine.specs.Canonical.{canonical_code}
 use Rattle.tree_machine.specs.Flat.{parts_code}
 use Rattle.tree_machine.specs.FormCode.{TellsWholly}
@@ -25,7 +24,7 @@ module _ {Memory Place : Type 0} (parts : Memory → List (Option Place) → Par
       → TellsWholly (λ memory held. parts_code front (parts memory held))
       (λ memory held. parts_code other_front (parts memory held))
   parts_tell_wholly tell front other_front memory other held others many e =
-      grind (arith, nat_tests, parts_code_tells, same_count)
+      grind (arith, parts_code_tells, same_count)
 
   -- memories and places are in range exactly where their parts are, and alike exactly where their parts can be paired
   module _ (rules : Rules Memory Place) (fixed : ℕ)

@@ -7,7 +7,6 @@ use Rattle.std.specs.Option.{option_and_then}
 use Rattle.std.proofs.lemmas.List.{length-map}
 use Rattle.std.proofs.lemmas.List.Elements.{All-map}
 use Rattle.std.proofs.lemmas.Option.{slice_get-map, slice_get_within}
-use Rattle.std.proofs.lemmas.Bool.Decides.{nat_tests}
 use Rattle.tree_machine.specs.Cells.{place_in}
 use Rattle.tree_machine.specs.Pairing.{IsAmong}
 use Rattle.tree_machine.specs.Graphs.{numbers_from}
@@ -64,7 +63,7 @@ place_range n f xs below x y p =
 module _ (nodes records : List ℕ) where
   part_paired : (p : Part) → IsPartMet nodes records p
       → ArePartsPaired (IsAmong (places nodes)) (IsAmong (places records)) p (renamed_part nodes records p)
-  part_paired p h = grind (arith, nat_tests, refs_placed)
+  part_paired p h = grind (arith, refs_placed)
 
   held_paired : (ps : List Part) → AllByRecursion (IsPartMet nodes records) ps
       → AllZip (ArePartsPaired (IsAmong (places nodes)) (IsAmong (places records))) ps
@@ -137,7 +136,7 @@ module _ (fixed : ℕ) (s t : Parts) (nodes records others targets : List ℕ) (
 
   part_from_same : (a b : Part) → IsPartMet nodes records a → IsPartMet others targets b
       → renamed_part nodes records a ≡ renamed_part others targets b → ArePartsPaired P R a b
-  part_from_same a b h g e = grind (arith, nat_tests, refs_from_renamed)
+  part_from_same a b h g e = grind (arith, refs_from_renamed)
 
   held_from_same : (ps qs : List Part) → AllByRecursion (IsPartMet nodes records) ps
       → AllByRecursion (IsPartMet others targets) qs

@@ -3,7 +3,6 @@ use Rattle.std.proofs.Common.{◌≡◌, ℕ, ◌≤◌, List, ◌++◌, length,
 use Rattle.std.specs.Prelude.{Option}
 use Rattle.std.specs.List.{flat_map}
 use Rattle.std.proofs.lemmas.List.{drop_at, length-map, length-take-le, map-append, take_at, take-map}
-use Rattle.std.proofs.lemmas.Bool.Decides.{nat_tests}
 use Rattle.std.proofs.Common.{arith}
 use Rattle.tree_machine.specs.Alike.{places_of}
 use Rattle.tree_machine.specs.Flat.{behind_code, cell_code, front_code, graph_code, left_code, part_content}
@@ -31,7 +30,7 @@ pub behind_read : {Place : Type 0} (part : Option Place → Part) (front : Front
     → bytes ≡ flat_map (λ thread. cell_code (part_content (part thread.place))) threads ++ rest
     → rest ≡ left_code more others
     → bytes ≡ behind_code front (record { nodes = nodes; records = records; held = map part (places_of threads) })
-behind_read part front nodes records more others threads bytes rest e f b r = grind (arith, nat_tests, places_coded)
+behind_read part front nodes records more others threads bytes rest e f b r = grind (arith, places_coded)
 
 pub front_kept : (front : Front) (nodes records old kept held : List Part) → take front.nodes nodes
     ≡ take front.nodes old

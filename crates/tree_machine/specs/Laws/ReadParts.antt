@@ -6,7 +6,6 @@ use Rattle.std.specs.Prelude.{Option, slice_index_or, slice_set}
 use Rattle.std.specs.List.{flat_map}
 use Rattle.std.proofs.lemmas.Grind.{flat_map-append}
 use Rattle.std.proofs.lemmas.List.{length-map, length_push, map-append, take_all, take_more_set}
-use Rattle.std.proofs.lemmas.Bool.Decides.{nat_tests}
 use Rattle.tree_machine.specs.Alike.{places_of}
 use Rattle.tree_machine.specs.Parts.{Part}
 use Rattle.tree_machine.specs.Flat.{cell_code, part_codes, part_content}
@@ -24,7 +23,7 @@ module _ {X : Type 0} (f : X → Part) where
       → (more : List X) × (after ≡ old ++ more) × (length more ≡ count + 1)
       × (bytes ≡ part_codes (map f more) ++ behind)
   one_read old more x count items after bytes rest behind e l b a r =
-      grind (arith, nat_tests, append_assoc, length_push, map-append, flat_map-append, append-nil)
+      grind (arith, append_assoc, length_push, map-append, flat_map-append, append-nil)
 
   -- all that was read comes in front
   pub take_read : (xs : List X) (count : ℕ) → length xs ≡ count → take count (map f xs) ≡ map f xs
@@ -47,4 +46,4 @@ kept_at f xs i x d same = map-set_same f xs i x d same
 pub places_coded : {Place : Type 0} (f : Option Place → Part) (threads : List (Thread Place))
     → flat_map (λ thread. cell_code (part_content (f thread.place))) threads ≡ part_codes (map f (places_of threads))
 places_coded f [] = refl
-places_coded f (thread ∷ threads) = grind (arith, nat_tests, places_coded f threads)
+places_coded f (thread ∷ threads) = grind (arith, places_coded f threads)

@@ -45,13 +45,7 @@ module _ (shapes : ℕ → Option Shape) where
     (λ o. let t = below o.levels low high x (Some (Internal m l r)) e o.within in
         let a = apart t.0 low (min m high) l t.1.0 in
         let b = apart t.0 (max m low) high r t.1.1 in
-        let to_left : min m high ≡ m = omega arith in
-        let to_right : max m low ≡ m = omega arith in (
-          omega arith,
-          omega arith,
-          record { levels = t.0; within = rw to_left at t.1.0 },
-          record { levels = t.0; within = rw to_right at t.1.1 },
-        )),
+        grind arith),
     (λ o. let n = o.2.levels in let p = o.3.levels in
         let left = more_levels n (n + p) low m l (omega arith) o.2.within in
         let right = more_levels p (n + p) m high r (omega arith) o.3.within in

@@ -1,7 +1,6 @@
 -- Memories whose paired nodes are seen alike keep search order, or neither does.
 use Rattle.std.specs.Prelude.{◌≡◌, ◌↔◌, ℕ, zero, suc, Option, Some, None}
 use Rattle.std.proofs.Common.{arith}
-use Rattle.std.proofs.lemmas.Bool.Decides.{nat_tests}
 use Rattle.tree_machine.specs.declared.search_order.Shape.{Shape}
 use Rattle.tree_machine.specs.declared.search_order.Shape.TheVariants.{Leaf, Internal}
 use Rattle.tree_machine.specs.SearchOrder.{IsOrderedWithin, KeepsSearchOrder}
@@ -18,7 +17,7 @@ module _ (P : ℕ → ℕ → Type 0) where
     within_order : (levels low high x y : ℕ) → P x y → IsOrderedWithin shapes levels low high x
         ↔ IsOrderedWithin others levels low high y
     within_order zero low high x y p = ((λ o. o), (λ o. o))
-    within_order (suc levels) low high x y p = grind (arith, nat_tests, within_order levels)
+    within_order (suc levels) low high x y p = grind (arith, within_order levels)
 
     pub search_order_paired : P 0 0 → KeepsSearchOrder shapes ↔ KeepsSearchOrder others
-    search_order_paired root = grind (arith, nat_tests, within_order)
+    search_order_paired root = grind (arith, within_order)

@@ -8,20 +8,20 @@ use Rattle.tree_machine.specs.Packed.{note_number, counts_in, are_digits, is_sho
 -- ---- what a short note is
 
 pub short_parts : (counts : List ℕ) → is_short counts ≡ true → (length counts ≤ 4) × (are_digits counts ≡ true)
-short_parts counts h = grind (arith, nat_tests)
+short_parts counts h = grind (arith)
 
 pub short_of : (counts : List ℕ) → length counts ≤ 4 → are_digits counts ≡ true → is_short counts ≡ true
-short_of counts bounded digits = grind (arith, nat_tests)
+short_of counts bounded digits = grind (arith)
 
 pub digits_more : (counts : List ℕ) (count : ℕ) → are_digits counts ≡ true → count < 8
     → are_digits (counts ++ count ∷ []) ≡ true
-digits_more [] count digits small = grind (arith, nat_tests)
-digits_more (first ∷ counts) count digits small = grind (arith, nat_tests, digits_more counts count)
+digits_more [] count digits small = grind (arith)
+digits_more (first ∷ counts) count digits small = grind (arith, digits_more counts count)
 
 digits_fewer : (k : ℕ) (counts : List ℕ) → are_digits counts ≡ true → are_digits (take k counts) ≡ true
 digits_fewer zero counts digits = refl
 digits_fewer (suc k) [] digits = refl
-digits_fewer (suc k) (count ∷ counts) digits = grind (arith, nat_tests, digits_fewer k counts)
+digits_fewer (suc k) (count ∷ counts) digits = grind (arith, digits_fewer k counts)
 
 -- the counts of any number are a short note
 pub counts_short : (n : ℕ) → is_short (counts_in n) ≡ true
