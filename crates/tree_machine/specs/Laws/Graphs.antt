@@ -1,6 +1,5 @@
 -- Numbers in a row.
-use Rattle.std.proofs.Common.{◌≡◌, ℕ, zero, suc, ◌+◌, [], ◌∷◌, ◌++◌, length, refl, ap, arith}
-use Rattle.std.proofs.Common.{add-one}
+use Rattle.std.proofs.Common.{◌≡◌, ℕ, zero, suc, ◌+◌, [], ◌∷◌, ◌++◌, length, refl, ap, arith, add-one}
 use Rattle.tree_machine.specs.Graphs.{numbers_from}
 
 pub length-numbers_from : (a n : ℕ) → length (numbers_from a n) ≡ n

@@ -13,10 +13,8 @@ use Rattle.tree_machine.specs.declared.machine.Outcome.TheVariants.{Goes, Replie
 use Rattle.tree_machine.specs.declared.search_order.End.{End}
 use Rattle.tree_machine.specs.declared.search_order.Shape.{Shape}
 use Rattle.tree_machine.specs.Cells.{IsPairedOrNone}
-use Rattle.tree_machine.specs.Pairing.{Pairing, Extends, IsAmong, IsOneToOne, AreHeldPaired}
-use Rattle.tree_machine.specs.Pairing.{AreStepsPaired}
-use Rattle.tree_machine.specs.Parts.{Part, Parts, part_at, ArePartsPaired, IsPartsPairing, IsPartBelow}
-use Rattle.tree_machine.specs.Parts.{ArePartsInRange}
+use Rattle.tree_machine.specs.Pairing.{Pairing, Extends, IsAmong, IsOneToOne, AreHeldPaired, AreStepsPaired}
+use Rattle.tree_machine.specs.Parts.{Part, Parts, part_at, ArePartsPaired, IsPartsPairing, IsPartBelow, ArePartsInRange}
 use Rattle.tree_machine.specs.Rules.{Rules, ArePlacesInRange, IsOutcomeInRange}
 use Rattle.tree_machine.specs.SearchOrder.{end_of}
 use Rattle.tree_machine.specs.Laws.PartCells.{all_parts, part_all}

@@ -135,7 +135,7 @@ module _ (P R : ℕ → ℕ → Type 0) (s t : Parts) where
         → AreCellsPaired Paired (content_at (all_cells s) x) (content_at (all_cells t) y)
     paired_cells x y (inl (l, k, p)) = rw (node_at s x l, node_at t y k) (cells_paired _ _ (h.nodes_paired x y p))
     paired_cells x y (inr (l, k, inl (i, j, p))) =
-        grind (arith, record_at s (x - length s.nodes), record_at t (y - length t.nodes), h.records_paired, cells_paired)
+        grind (arith, record_at s (x - length s.nodes), record_at t (y - length t.nodes), cells_paired)
     paired_cells x y (inr (l, k, inr (g, j, p))) =
         let a = x - length s.nodes - length s.records in
         let e : length (parts_graph s) + a ≡ x = omega (arith, length-parts_graph s) in

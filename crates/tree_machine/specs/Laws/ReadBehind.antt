@@ -1,9 +1,8 @@
 -- Nodes, records and what the threads hold, read behind a front that stays.
-use Rattle.std.proofs.Common.{◌≡◌, ℕ, ◌≤◌, List, ◌++◌, length, map, take, drop, sym, ◌∙◌}
+use Rattle.std.proofs.Common.{◌≡◌, ℕ, ◌≤◌, List, ◌++◌, length, map, take, drop, sym, ◌∙◌, arith}
 use Rattle.std.specs.Prelude.{Option}
 use Rattle.std.specs.List.{flat_map}
 use Rattle.std.proofs.lemmas.List.{drop_at, length-map, length-take-le, map-append, take_at, take-map}
-use Rattle.std.proofs.Common.{arith}
 use Rattle.tree_machine.specs.Alike.{places_of}
 use Rattle.tree_machine.specs.Flat.{behind_code, cell_code, front_code, graph_code, left_code, part_content}
 use Rattle.tree_machine.specs.Parts.{Part}
