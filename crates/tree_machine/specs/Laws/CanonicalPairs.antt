@@ -21,13 +21,13 @@ module _ (P R : ℕ → ℕ → Type 0) (fixed : ℕ) (s t : Parts) (h : ArePart
   -- both are nodes that P pairs, or neither is a node
   nodes_apart : (x y : ℕ) → Paired P R s t x y
       → PassAlike (is_node (length s.nodes)) (is_node (length t.nodes)) P x y
-  nodes_apart x y q = grind (arith)
+  nodes_apart x y q = grind arith
 
   -- both are records that R pairs, or neither is a record
   records_apart : (x y : ℕ) → Paired P R s t x y
       → PassAlike (is_record (length s.nodes) (length s.records)) (is_record (length t.nodes) (length t.records))
       (λ x y. R (x - length s.nodes) (y - length t.nodes)) x y
-  records_apart x y q = grind (arith)
+  records_apart x y q = grind arith
 
   -- orders that are paired have paired nodes and paired records
   split_pairs : (xs ys : List ℕ) → AllZip (Paired P R s t) xs ys

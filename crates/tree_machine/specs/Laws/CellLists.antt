@@ -3,9 +3,11 @@ use Rattle.std.proofs.Common.{◌≡◌, ℕ, zero, suc, ◌+◌, ◌<◌, ◌�
 use Rattle.std.proofs.Common.{length-append, refl}
 use Rattle.std.specs.Prelude.{slice_get, Option, Some, None, nat_eq}
 use Rattle.std.specs.List.{AllZip, All, AllByRecursion, IsDistinct}
-use Rattle.std.proofs.lemmas.List.Elements.{All-append, All-from_recursion, All-head, All-map, All-tail}
+use Rattle.std.proofs.lemmas.List.Elements.{All-append, All-from_recursion, All-map}
 use Rattle.std.proofs.lemmas.List.Elements.{recursion_from_All}
 use Rattle.std.proofs.lemmas.List.{get_or_append_left, get_or-append-add}
+use Rattle.std.proofs.lemmas.Map.Keys.{apart_from_distinct, IsDistinct-from_apart}
+use Rattle.std.proofs.Math.Seq.{of_parts}
 use Rattle.std.proofs.lemmas.Option.{unwrap_or-slice_get}
 use Rattle.tree_machine.specs.Cells.{Content, IsRooted, content_at, met_all, visited, met_in, order_of}
 use Rattle.tree_machine.specs.Graphs.{numbers_from}
@@ -53,22 +55,17 @@ pub record AreDistinctIn (low high : ℕ) (xs : List ℕ) : Type 0 where
 -- two such lists end to end
 pub distinct_in_join : (a b c d : ℕ) (xs ys : List ℕ) → (a ≤ c) × (b ≤ c) × (b ≤ d) → AreDistinctIn a b xs
     → AreDistinctIn c d ys → AreDistinctIn a d (xs ++ ys)
-unfolding IsDistinct
-distinct_in_join a b c d xs ys rise h g = record {
-  distinct = go xs h.distinct (λ k e l. (h.within k e l).1);
-  within =
-      All-append (λ x. (a ≤ x) × (x < d)) xs ys
-      (λ k e l. omega (arith, h.within k e l)) (λ k e l. omega (arith, g.within k e l));
-}
-  where
-    go : (xs : List ℕ) → IsDistinct nat_eq xs → All (λ x. x < b) xs → IsDistinct nat_eq (xs ++ ys)
-    go [] distinct below = g.distinct
-    go (x ∷ xs) distinct below =
-        let first = All-head (λ x. x < b) x xs below in
-        let apart =
-        All-append (λ y. nat_eq x y ≡ false) xs ys (All-from_recursion _ xs distinct.0)
-        (λ k e l. let there = g.within k e l in grind (arith)) in
-        (recursion_from_All _ (xs ++ ys) apart, go xs distinct.1 (All-tail (λ x. x < b) x xs below))
+distinct_in_join a b c d xs ys rise h g =
+    let here = λ (i : ℕ) (j : ℕ) (e : ℕ). apart_from_distinct nat_eq xs i j e h.distinct in
+    let there = λ (i : ℕ) (j : ℕ) (e : ℕ). apart_from_distinct nat_eq ys i j e g.distinct in
+    record {
+      distinct =
+          IsDistinct-from_apart nat_eq (xs ++ ys)
+          (λ i j e l k. grind (arith, of_parts, here, there, h.within, g.within));
+      within =
+          All-append (λ x. (a ≤ x) × (x < d)) xs ys
+          (λ k e l. omega (arith, h.within k e l)) (λ k e l. omega (arith, g.within k e l));
+    }
 
 pub distinct_in_row : (a n : ℕ) → AreDistinctIn a (a + n) (numbers_from a n)
 unfolding IsDistinct
@@ -78,7 +75,7 @@ distinct_in_row a n =
     go : (a n : ℕ) → IsDistinct nat_eq (numbers_from a n)
     go a zero = tt
     go a (suc n) =
-        let apart = numbers_all (λ x. nat_eq a x ≡ false) (suc a) n (λ x l k. grind (arith)) in
+        let apart = numbers_all (λ x. nat_eq a x ≡ false) (suc a) n (λ x l k. grind arith) in
         (recursion_from_All _ _ apart, go (suc a) n)
 
 -- distinct numbers stay distinct under a map that is one to one among them

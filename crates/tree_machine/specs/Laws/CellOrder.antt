@@ -157,6 +157,5 @@ met_in_closed cells roots (suc n) = visited_closed cells n (met_in cells roots n
 pub order_closed : (cells : List Content) (roots : List ℕ) → IsRooted cells roots → (k x : ℕ)
     → slice_get (order_of cells roots) k ≡ Some x → HasAll (order_of cells roots) (content_at cells x).refs
 order_closed cells roots h k x at =
-    let order = met_in_order cells roots h (length cells) in
-    met_in_closed cells roots (length cells) k x
-    (omega (arith, slice_get_within _ k x at, length-order (length cells) _ order)) at
+    let short = length-order (length cells) _ (met_in_order cells roots h (length cells)) in
+    met_in_closed cells roots (length cells) k x (omega (arith, slice_get_within _ k x at)) at

@@ -36,7 +36,7 @@ place_from_has (y ∷ xs) x h =
 
 pub get_place : (xs : List ℕ) (x k : ℕ) → place_in xs x ≡ Some k → slice_get xs k ≡ Some x
 get_place [] x k h = cc
-get_place (y ∷ xs) x zero h = grind (arith)
+get_place (y ∷ xs) x zero h = grind arith
 get_place (y ∷ xs) x (suc k) h = grind (arith, get_place xs x k)
 
 pub has_at : (xs : List ℕ) (k x : ℕ) → slice_get xs k ≡ Some x → Has xs x
@@ -64,7 +64,7 @@ rel_among P xs ys z x y h = let r = at_among xs ys x y h in rw (r.1, r.2) at (at
 -- in a list of distinct numbers each has one place
 pub place_at : (xs : List ℕ) → IsDistinct nat_eq xs → (k x : ℕ) → slice_get xs k ≡ Some x → place_in xs x ≡ Some k
 place_at [] d k x h = cc
-place_at (y ∷ xs) d zero x h = grind (arith)
+place_at (y ∷ xs) d zero x h = grind arith
 place_at (y ∷ xs) d (suc k) x h =
     let apart = all_has (λ z. nat_eq y z ≡ false) xs (IsDistinct-head nat_eq y xs d) x (has_at xs k x h) in
     grind (arith, place_at xs (IsDistinct-tail nat_eq y xs d) k x h)

@@ -8,11 +8,11 @@ use Rattle.tree_machine.specs.Pairing.{IsOneToOne}
 
 -- a number is not another one
 pub is_other : (x y : ℕ) → (x ≡ y → ⊥) → nat_eq x y ≡ false
-is_other x y h = grind (arith)
+is_other x y h = grind arith
 
 -- two tests agree where what they test is equal together
 pub same_tests : (x y a b : ℕ) → (x ≡ a) ↔ (y ≡ b) → nat_eq x a ≡ nat_eq y b
-same_tests x y a b h = grind (arith)
+same_tests x y a b h = grind arith
 
 -- paired lists have, at each place, paired elements or none in both
 pub at_paired : (P : ℕ → ℕ → Type 0) (xs ys : List ℕ) (n : ℕ) → AllZip P xs ys

@@ -82,19 +82,19 @@ abbrev pub is_record : ℕ → ℕ → ℕ → Bool
 is_record n r x = nat_le n x && nat_lt x (n + r)
 
 pub test_node : (n x : ℕ) → x < n → nat_lt x n ≡ true
-test_node n x l = grind (arith)
+test_node n x l = grind arith
 
 pub test_other : (n x : ℕ) → n ≤ x → nat_lt x n ≡ false
-test_other n x l = grind (arith)
+test_other n x l = grind arith
 
 pub test_record : (n r x : ℕ) → n ≤ x → x < n + r → (nat_le n x && nat_lt x (n + r)) ≡ true
-test_record n r x l k = grind (arith)
+test_record n r x l k = grind arith
 
 pub test_before : (n r x : ℕ) → x < n → (nat_le n x && nat_lt x (n + r)) ≡ false
-test_before n r x l = grind (arith)
+test_before n r x l = grind arith
 
 pub test_behind : (n r x : ℕ) → n + r ≤ x → (nat_le n x && nat_lt x (n + r)) ≡ false
-test_behind n r x l = grind (arith)
+test_behind n r x l = grind arith
 
 -- ---- the nodes and the records that are met
 

@@ -34,7 +34,7 @@ digits_of_number (suc most) (reply ∷ replies) bounded =
 -- a number from 2 ^ k on and below 2 * 2 ^ k has k digits below its leading one
 pub digits_length : (most k n : ℕ) → k ≤ most → 2 ^ k ≤ n → n < 2 * 2 ^ k → length (digits_of most n) ≡ k
 digits_length zero k n bounded reaches below = omega arith
-digits_length (suc most) zero n bounded reaches below = grind (arith)
+digits_length (suc most) zero n bounded reaches below = grind arith
 digits_length (suc most) (suc k) n bounded reaches below =
     grind (arith, digits_length most k (n / 2), two-pow-succ k, pow_pos k)
 

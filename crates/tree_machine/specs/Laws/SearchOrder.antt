@@ -49,12 +49,7 @@ module _ (shapes : ℕ → Option Shape) where
     (λ o. let n = o.2.levels in let p = o.3.levels in
         let left = more_levels n (n + p) low m l (omega arith) o.2.within in
         let right = more_levels p (n + p) m high r (omega arith) o.3.within in
-        let to_left : min m high ≡ m = omega arith in
-        let to_right : max m low ≡ m = omega arith in
-        record {
-          levels = suc (n + p);
-          within = of_node (n + p) low high x (Some (Internal m l r)) e (rw (to_left, to_right) (left, right));
-        }),
+        record { levels = suc (n + p); within = grind arith }),
   )
 
   -- a search ends at a leaf, and where there is no node

@@ -8,14 +8,14 @@ use Rattle.tree_machine.specs.Packed.{note_number, counts_in, are_digits, is_sho
 -- ---- what a short note is
 
 pub short_parts : (counts : List ℕ) → is_short counts ≡ true → (length counts ≤ 4) × (are_digits counts ≡ true)
-short_parts counts h = grind (arith)
+short_parts counts h = grind arith
 
 pub short_of : (counts : List ℕ) → length counts ≤ 4 → are_digits counts ≡ true → is_short counts ≡ true
-short_of counts bounded digits = grind (arith)
+short_of counts bounded digits = grind arith
 
 pub digits_more : (counts : List ℕ) (count : ℕ) → are_digits counts ≡ true → count < 8
     → are_digits (counts ++ count ∷ []) ≡ true
-digits_more [] count digits small = grind (arith)
+digits_more [] count digits small = grind arith
 digits_more (first ∷ counts) count digits small = grind (arith, digits_more counts count)
 
 digits_fewer : (k : ℕ) (counts : List ℕ) → are_digits counts ≡ true → are_digits (take k counts) ≡ true
