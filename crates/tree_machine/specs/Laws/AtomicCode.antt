@@ -1,10 +1,10 @@
 -- The bytes of the machine that does each operation at once determine what they are of.
 use Rattle.std.specs.Prelude.{◌≡◌, ℕ, List, [], ◌∷◌, ◌++◌, Option, Some, None}
 use Rattle.std.specs.List.{flat_map}
-use Rattle.std.proofs.Common.{arith, subst, sym}
+use Rattle.std.proofs.Common.{arith}
 use Rattle.tree_machine.specs.FormCode.{IsInjective, TellsWholly}
 use Rattle.tree_machine.specs.Atomic.{atomic_form, atomic_rules}
-use Rattle.tree_machine.specs.Rules.{ArePlacesInRange, DecodesForms}
+use Rattle.tree_machine.specs.Rules.{DecodesForms}
 use Rattle.tree_machine.specs.Laws.Atomic.{atomic_forms}
 use Rattle.tree_machine.specs.AtomicCode.{held_code, atomic_code}
 use Rattle.tree_machine.specs.declared.atomic.AtomicLoc.{AtomicLoc}
@@ -32,8 +32,4 @@ atomic_tells keys others held twins many e = let same = held_readable held twins
 pub atomic_decodes : {Machine : Type 0} (machine : Machine)
     → DecodesForms atomic_rules atomic_form atomic_code (λ keys held. atomic_code (atomic_form keys held))
 atomic_decodes machine keys others held twins range places many e =
-    let same = atomic_tells others keys twins held (sym many) e in (
-      tt,
-      subst (ArePlacesInRange atomic_rules others) (sym same.1) places,
-      (atomic_forms keys others held twins).0 (λ i. atomic_form (sym same.0 i) (sym same.1 i)),
-    )
+    grind (arith, atomic_tells others keys twins held, atomic_forms keys others held twins)

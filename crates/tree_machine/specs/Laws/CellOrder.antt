@@ -112,10 +112,8 @@ module _ (cells : List Content) (roots : List ℕ) (h : IsRooted cells roots) wh
   visited_order order (Some x) g = met_all_order (length cells) (content_at cells x).refs order (refs_below x) g
 
   pub met_in_order : (n : ℕ) → IsOrder (length cells) (met_in cells roots n)
-  met_in_order zero = record {
-    distinct = h.roots_distinct;
-    below = all_has (λ x. x < length cells) roots (recursion_from_All _ roots h.roots_in_range);
-  }
+  met_in_order zero =
+      grind (arith, all_has (λ x. x < length cells) roots (recursion_from_All _ roots h.roots_in_range))
   met_in_order (suc n) = visited_order (met_in cells roots n) _ (met_in_order n)
 
   -- after a visit for each cell there is nothing more to visit

@@ -63,12 +63,7 @@ module _ {Machine Memory Place Form : Type 0} (rules : Rules Memory Place)
   decoded_steps = pieces.0
 
   pub decoded_alike : AreStatesAlike rules s c
-  decoded_alike = record {
-    paired = decoded.2;
-    replies = sym same_replies;
-    notes = sym (ap (λ (x : FormContent (List ℕ)). x.notes) pieces.1);
-    astray = sym (ap (λ (x : FormContent (List ℕ)). x.astray) pieces.1);
-  }
+  decoded_alike = grind (arith, decoded, pieces)
 
   pub decoded_fits : (program : Program) → Fits rules program s → Fits rules program c
   decoded_fits program fits = record {

@@ -36,10 +36,6 @@ module _ {Memory Place : Type 0} where
   pub equal_alike : (memory other : Memory) (held twins : List (Option Place))
       → ((memory ≡ other) × (held ≡ twins)) ↔ AreAlike equal_pairs memory held other twins
   equal_alike memory other held twins = (
-    (λ same. (
-      record { nodes = []; records = [] },
-      same.0,
-      subst (AllZip (AreHeldPaired ◌≡◌) held) same.1 (held_paired held),
-    )),
+    (λ same. (record { nodes = []; records = [] }, same.0, rw same.1 (held_paired twins))),
     (λ alike. (alike.1, held_same held twins alike.2)),
   )
