@@ -10,7 +10,7 @@ use Rattle.tree_machine.specs.Canonical.{parts_order, met_nodes, met_records, ca
 use Rattle.tree_machine.specs.Laws.Cells.{AllZip-weaker, orders_paired}
 use Rattle.tree_machine.specs.Laws.CellLists.{numbers_zip, zip_join}
 use Rattle.tree_machine.specs.Laws.PartCells.{all_cells, length-parts_graph, Paired, held_long, cells_pairing}
-use Rattle.tree_machine.specs.Laws.PartCells.{paired_node, paired_record}
+use Rattle.tree_machine.specs.Laws.PartCells.{paired_node}
 use Rattle.tree_machine.specs.Laws.MetLists.{PassAlike, filter_zip, is_node, is_record, map_zip}
 use Rattle.tree_machine.specs.Laws.PartsBy.{by_same, paired_from_same}
 use Rattle.tree_machine.specs.Laws.Canonical.{fixed_cells, front_met, front_same}
@@ -56,7 +56,6 @@ module _ (P R : ℕ → ℕ → Type 0) (fixed : ℕ) (s t : Parts) (h : ArePart
       let front = fronts_paired in
       let long : length (parts_held s) ≡ length (parts_held t) = simp length-map (held_long P R s t fixed p) in
       let node = paired_node P R s t fixed p in
-      let recorded = paired_record P R s t fixed p in
       grind (arith, length-map, zip_join, AllZip-weaker, map_zip, numbers_zip, length-parts_graph)
 
   -- and so is all that is met

@@ -58,14 +58,7 @@ pub distinct_in_join : (a b c d : ℕ) (xs ys : List ℕ) → (a ≤ c) × (b �
 distinct_in_join a b c d xs ys rise h g =
     let here = λ (i : ℕ) (j : ℕ) (e : ℕ). apart_from_distinct nat_eq xs i j e h.distinct in
     let there = λ (i : ℕ) (j : ℕ) (e : ℕ). apart_from_distinct nat_eq ys i j e g.distinct in
-    record {
-      distinct =
-          IsDistinct-from_apart nat_eq (xs ++ ys)
-          (λ i j e l k. grind (arith, of_parts, here, there, h.within, g.within));
-      within =
-          All-append (λ x. (a ≤ x) × (x < d)) xs ys
-          (λ k e l. omega (arith, h.within k e l)) (λ k e l. omega (arith, g.within k e l));
-    }
+    grind (arith, IsDistinct-from_apart, of_parts, All-append)
 
 pub distinct_in_row : (a n : ℕ) → AreDistinctIn a (a + n) (numbers_from a n)
 unfolding IsDistinct

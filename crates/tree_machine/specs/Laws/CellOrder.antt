@@ -130,8 +130,7 @@ visited_extends cells order (Some x) = met_all_extends (content_at cells x).refs
 
 pub met_in_extends : (cells : List Content) (roots : List ℕ) (n : ℕ) → Extends roots (met_in cells roots n)
 met_in_extends cells roots zero = extends_itself roots
-met_in_extends cells roots (suc n) =
-    extends_more (met_in_extends cells roots n) (visited_extends cells (met_in cells roots n) _)
+met_in_extends cells roots (suc n) = grind (arith, met_in_extends cells roots n, extends_more, visited_extends)
 
 -- the first n cells of the order have all their refs in it
 abbrev IsClosedBelow : List Content → ℕ → List ℕ → Type 0

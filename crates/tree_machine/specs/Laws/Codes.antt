@@ -95,7 +95,6 @@ state_codes_tell code twin_code tells s t e =
     let pieces = state_pieces code s t.steps (state_content twin_code t) e in
     let many : length (places_of s.threads) ≡ length (places_of t.threads) =
     simp length-map (simp length-map at (ap (λ (c : FormContent (List ℕ)). length c.replies) pieces.1)) in
-    let form = tells s.memory t.memory (places_of s.threads) (places_of t.threads) many in
     grind (arith, same_threads s.threads t.threads)
 
 pub state_code_tells : {Machine Memory Place Form : Type 0} (code : Memory → List (Option Place) → List ℕ)
