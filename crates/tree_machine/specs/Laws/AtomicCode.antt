@@ -1,10 +1,10 @@
 -- The bytes of the machine that does each operation at once determine what they are of.
-use Rattle.std.specs.Prelude.{◌≡◌, ℕ, List, [], ◌∷◌, ◌++◌, Option, Some, None, refl}
+use Rattle.std.specs.Prelude.{◌≡◌, ℕ, List, [], ◌∷◌, ◌++◌, Option, Some, None}
 use Rattle.std.specs.List.{flat_map}
-use Rattle.std.proofs.Common.{ap, arith, get_or, subst, sym}
+use Rattle.std.proofs.Common.{arith}
 use Rattle.tree_machine.specs.FormCode.{IsInjective, TellsWholly}
 use Rattle.tree_machine.specs.Atomic.{atomic_form, atomic_rules}
-use Rattle.tree_machine.specs.Rules.{ArePlacesInRange, DecodesForms}
+use Rattle.tree_machine.specs.Rules.{DecodesForms}
 use Rattle.tree_machine.specs.Laws.Atomic.{atomic_forms}
 use Rattle.tree_machine.specs.AtomicCode.{held_code, atomic_code}
 use Rattle.tree_machine.specs.declared.atomic.AtomicLoc.{AtomicLoc}
@@ -13,18 +13,15 @@ use Rattle.tree_machine.specs.declared.atomic.AtomicLoc.TheVariants.{Do}
 held_readable : (places others : List (Option AtomicLoc)) (keys twins : List ℕ)
     → flat_map held_code places ++ 0 ∷ keys ≡ flat_map held_code others ++ 0 ∷ twins
     → (places ≡ others) × (keys ≡ twins)
-held_readable [] [] keys twins e = (refl, let same : keys ≡ twins = cc in same)
-held_readable [] (None ∷ others) keys twins e = absurd (omega (arith, ap (λ l. get_or l 0 0) e))
-held_readable (None ∷ places) (None ∷ others) keys twins e =
-    let rest = held_readable places others keys twins (cc) in (cc rest.0, rest.1)
+held_readable [] [] keys twins e = grind arith
+held_readable [] (None ∷ others) keys twins e = grind arith
+held_readable (None ∷ places) (None ∷ others) keys twins e = grind (arith, held_readable places others keys twins)
 held_readable (Some Do ∷ places) (Some Do ∷ others) keys twins e =
-    let rest = held_readable places others keys twins (cc) in (cc rest.0, rest.1)
-held_readable _ _ keys twins e = absurd (omega (arith, ap (λ l. get_or l 0 0) e))
+    grind (arith, held_readable places others keys twins)
+held_readable _ _ keys twins e = grind arith
 
 pub atomic_codes : IsInjective atomic_code
-atomic_codes a b e =
-    let same = held_readable a.places b.places a.keys b.keys e in
-    λ i. record { keys = same.1 i; places = same.0 i }
+atomic_codes a b e = grind (arith, held_readable a.places b.places a.keys b.keys e)
 
 -- there are no numbers to leave out: the bytes of the form determine the keys and what the threads hold
 pub atomic_tells : TellsWholly (λ keys held. atomic_code (atomic_form keys held))
@@ -35,8 +32,4 @@ atomic_tells keys others held twins many e = let same = held_readable held twins
 pub atomic_decodes : {Machine : Type 0} (machine : Machine)
     → DecodesForms atomic_rules atomic_form atomic_code (λ keys held. atomic_code (atomic_form keys held))
 atomic_decodes machine keys others held twins range places many e =
-    let same = atomic_tells others keys twins held (sym many) e in (
-      tt,
-      subst (ArePlacesInRange atomic_rules others) (sym same.1) places,
-      (atomic_forms keys others held twins).0 (λ i. atomic_form (sym same.0 i) (sym same.1 i)),
-    )
+    grind (arith, atomic_tells others keys twins held, atomic_forms keys others held twins)

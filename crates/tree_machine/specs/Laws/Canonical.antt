@@ -1,18 +1,17 @@
 -- Canonical parts: they can be paired with the parts that they come from, and are equal exactly where parts can be.
 use Rattle.std.proofs.Common.{◌≡◌, ℕ, ◌+◌, ◌<◌, ◌≤◌, List, [], ◌∷◌, ◌++◌, map, length, ◌∙◌, ap, subst}
 use Rattle.std.proofs.Common.{append_assoc, append-nil, arith, length-append}
-use Rattle.std.specs.Prelude.{Option, Some, None, nat_eq}
-use Rattle.std.specs.List.{All, AllByRecursion, IsDistinct}
+use Rattle.std.specs.Prelude.{Option}
+use Rattle.std.specs.List.{All, AllByRecursion}
 use Rattle.std.specs.Option.{option_map}
 use Rattle.std.proofs.lemmas.List.{length-map}
-use Rattle.std.proofs.lemmas.List.Elements.{recursion_from_All, All-from_recursion, All-from_get_or}
+use Rattle.std.proofs.lemmas.List.Elements.{recursion_from_All, All-from_recursion}
 use Rattle.std.proofs.lemmas.List.Folds.{list_any-append}
-use Rattle.std.proofs.lemmas.Option.{unwrap_or-slice_get}
 use Rattle.std.proofs.Math.Bool.{or-true}
 use Rattle.tree_machine.specs.Cells.{content_at, IsRooted, order_of}
 use Rattle.tree_machine.specs.Pairing.{IsAmong}
 use Rattle.tree_machine.specs.Graphs.{numbers_from}
-use Rattle.tree_machine.specs.Parts.{Part, Parts, no_part, IsPartsPairing, IsPartBelow, ArePartsInRange}
+use Rattle.tree_machine.specs.Parts.{Part, Parts, IsPartsPairing, IsPartBelow, ArePartsInRange}
 use Rattle.tree_machine.specs.Parts.{part_cell, parts_graph, parts_held, CanPartsBePaired}
 use Rattle.tree_machine.specs.Canonical.{nodes_met, records_met, front_order, front_nodes, front_records, as_cells}
 use Rattle.tree_machine.specs.Canonical.{order_behind, met_nodes, met_records, canonical_parts}
@@ -21,11 +20,11 @@ use Rattle.tree_machine.specs.Laws.CellLists.{numbers_all, order_front}
 use Rattle.tree_machine.specs.Laws.CellOrder.{Has, HasAll, RefsBelow, Extends, extends_more, has_extends}
 use Rattle.tree_machine.specs.Laws.CellOrder.{met_in_order, met_in_extends, order_closed}
 use Rattle.tree_machine.specs.Laws.CellPlaces.{place_from_has, get_place, has_at}
-use Rattle.tree_machine.specs.Laws.PartCells.{all_cells, part_all, length-parts_graph, length-cells, node_at}
+use Rattle.tree_machine.specs.Laws.PartCells.{all_cells, all_parts, part_all, length-parts_graph, length-cells, node_at}
 use Rattle.tree_machine.specs.Laws.PartCells.{record_at, held_at, cells_rooted, graph_rooted}
 use Rattle.tree_machine.specs.Laws.Graphs.{length-numbers_from}
 use Rattle.tree_machine.specs.Laws.MetLists.{number_at, places, nodes_below, records_below, nodes_first, records_first}
-use Rattle.tree_machine.specs.Laws.MetLists.{nodes_distinct, node_has, has_node}
+use Rattle.tree_machine.specs.Laws.MetLists.{filter_distinct, node_has, has_node}
 use Rattle.tree_machine.specs.Laws.MetLists.{records_distinct, record_has, has_record}
 use Rattle.tree_machine.specs.Laws.PartsBy.{IsPartMet, AreMet, by_paired, by_in_range}
 
@@ -36,12 +35,8 @@ names_met : (n r : ℕ) (order : List ℕ) (ns rs : List (Option ℕ)) → RefsB
     → HasAll order (ns ++ map (option_map (λ x. n + x)) rs)
     → HasAll (nodes_met n order) ns × HasAll (records_met n r order) rs
 names_met n r order [] [] l k h = (tt, tt)
-names_met n r order [] (None ∷ rs) l k h = names_met n r order [] rs l k.1 h
-names_met n r order [] (Some y ∷ rs) l k h =
-    (tt, (has_record n order r y h.0 k.0, (names_met n r order [] rs l k.1 h.1).1))
-names_met n r order (None ∷ ns) rs l k h = names_met n r order ns rs l.1 k h
-names_met n r order (Some x ∷ ns) rs l k h =
-    let rest = names_met n r order ns rs l.1 k h.1 in ((has_node n order x h.0 l.0, rest.0), rest.1)
+names_met n r order [] (o ∷ rs) l k h = grind (arith, names_met n r order [] rs, has_record n order r)
+names_met n r order (o ∷ ns) rs l k h = grind (arith, names_met n r order ns rs, has_node n order)
 
 -- the nodes and the records of an order of cells
 abbrev nodes_of : Parts → List ℕ → List ℕ
@@ -55,53 +50,34 @@ abbrev pub roots_behind : Parts → List ℕ → List ℕ → List ℕ
 roots_behind s nodes records =
     as_cells (length s.nodes) nodes records ++ numbers_from (length (parts_graph s)) (length (parts_held s))
 
--- nodes and records that an order begins with are the first among its nodes and its records
-module _ (s : Parts) (order nodes records behind : List ℕ)
-    (is : order ≡ as_cells (length s.nodes) nodes records ++ behind)
-    (below : AllByRecursion (λ x. x < length s.nodes) nodes) where
-  first_nodes : Extends nodes (nodes_of s order)
-  first_nodes = record {
-    rest = nodes_of s behind;
-    is = ap (nodes_of s) is ∙ nodes_first _ (length s.records) nodes records _ below;
-  }
-
-  first_records : AllByRecursion (λ y. y < length s.records) records → Extends records (records_of s order)
-  first_records records_below = record {
-    rest = records_of s behind;
-    is = ap (records_of s) is ∙ records_first _ _ nodes records _ below records_below;
-  }
-
--- what is met is in range
-met_distinct_in : {n : ℕ} (xs : List ℕ) → IsDistinct nat_eq xs → AllByRecursion (λ x. x < n) xs → AreDistinctIn 0 n xs
-met_distinct_in {n} xs distinct below = record {
-  distinct = distinct;
-  within = λ k d l. (omega arith, All-from_recursion (λ x. x < n) xs below k d l);
-}
+-- nodes that an order begins with are the first among its nodes
+first_nodes : (s : Parts) (order nodes records behind : List ℕ)
+    → order ≡ as_cells (length s.nodes) nodes records ++ behind → AllByRecursion (λ x. x < length s.nodes) nodes
+    → Extends nodes (nodes_of s order)
+first_nodes s order nodes records behind is below = grind (arith, nodes_first)
 
 module _ (fixed : ℕ) (s : Parts) (h : ArePartsInRange fixed s) where
   -- what a walk meets names only what it meets
   module _ (roots : List ℕ) (rooted : IsRooted (all_cells s) roots) where
-    part_met : (x : ℕ) (p : Part) → Has (order_of (all_cells s) roots) x
-        → content_at (all_cells s) x ≡ part_cell (length s.nodes) p
-        → IsPartBelow (length s.nodes) (length s.records) p
-        → IsPartMet (nodes_of s (order_of (all_cells s) roots)) (records_of s (order_of (all_cells s) roots)) p
+    abbrev order : List ℕ
+    order = order_of (all_cells s) roots
+
+    part_met : (x : ℕ) (p : Part) → Has order x → content_at (all_cells s) x ≡ part_cell (length s.nodes) p
+        → IsPartBelow (length s.nodes) (length s.records) p → IsPartMet (nodes_of s order) (records_of s order) p
     part_met x p g e b =
-        let order = order_of (all_cells s) roots in
         let k = place_from_has order x g in
         names_met (length s.nodes) (length s.records) order p.nodes p.records
         (recursion_from_All _ _ b.nodes) (recursion_from_All _ _ b.records)
-        (subst (λ c. HasAll order c.refs) e
-        (order_closed (all_cells s) roots rooted k.0 x (get_place order x k.0 k.1)))
+        (rw e at (order_closed (all_cells s) roots rooted k.0 x (get_place order x k.0 k.1)))
 
-    order_met : Extends (numbers_from 0 fixed) (nodes_of s (order_of (all_cells s) roots))
-        → AreMet fixed s (nodes_of s (order_of (all_cells s) roots)) (records_of s (order_of (all_cells s) roots))
+    order_met : Extends (numbers_from 0 fixed) (nodes_of s order)
+        → AreMet fixed s (nodes_of s order) (records_of s order)
     order_met first =
         let n = length s.nodes in
         let r = length s.records in
-        let order = order_of (all_cells s) roots in
         let distinct = (met_in_order (all_cells s) roots rooted (length (all_cells s))).distinct in
         record {
-          nodes_distinct = nodes_distinct n order distinct;
+          nodes_distinct = filter_distinct _ order distinct;
           records_distinct = records_distinct n order r distinct;
           nodes_below = nodes_below n order;
           records_below = records_below n order r;
@@ -117,25 +93,24 @@ module _ (fixed : ℕ) (s : Parts) (h : ArePartsInRange fixed s) where
   -- ---- the front
 
   fixed_all : (m : ℕ) → length s.nodes ≤ m → All (λ x. x < m) (numbers_from 0 fixed)
-  fixed_all m l = numbers_all (λ x. x < m) 0 fixed (λ x g k. omega (arith, h.fixed_in_range))
+  fixed_all m l = numbers_all (λ x. x < m) 0 fixed (omega (arith, h.fixed_in_range))
 
-  pub fixed_cells : IsRooted (parts_graph s ++ parts_held s) (numbers_from 0 fixed)
+  pub fixed_cells : IsRooted (all_cells s) (numbers_from 0 fixed)
   fixed_cells =
       cells_rooted fixed s h _ (fixed_all _ (omega (arith, length-cells s))) (distinct_in_row 0 fixed).distinct
 
   -- what is held plays no part in it
-  pub front_same : order_of (parts_graph s ++ parts_held s) (numbers_from 0 fixed) ≡ front_order fixed s
+  pub front_same : order_of (all_cells s) (numbers_from 0 fixed) ≡ front_order fixed s
   front_same =
       order_front (parts_graph s) (parts_held s) (numbers_from 0 fixed)
       (graph_rooted fixed s h _ (fixed_all _ (omega (arith, length-parts_graph s))) (distinct_in_row 0 fixed).distinct)
 
   pub front_met : AreMet fixed s (front_nodes fixed s) (front_records fixed s)
   front_met =
-      let order = order_of (all_cells s) (numbers_from 0 fixed) in
       let first = met_in_extends (all_cells s) (numbers_from 0 fixed) (length (all_cells s)) in
       subst (λ o. AreMet fixed s (nodes_of s o) (records_of s o)) front_same
       (order_met (numbers_from 0 fixed) fixed_cells
-      (first_nodes s order (numbers_from 0 fixed) [] first.rest (rw append-nil first.is)
+      (first_nodes s _ (numbers_from 0 fixed) [] first.rest (rw append-nil first.is)
       (recursion_from_All _ _ (fixed_all _ (omega arith)))))
 
   -- ---- behind nodes and records that have what they name
@@ -149,20 +124,21 @@ module _ (fixed : ℕ) (s : Parts) (h : ArePartsInRange fixed s) where
         let held = length (parts_held s) in
         let long : m ≡ n + length s.records = length-parts_graph s in
         let more : length (all_cells s) ≡ m + held = length-append (parts_graph s) (parts_held s) in
-        let below : AreDistinctIn 0 n nodes = met_distinct_in nodes met.nodes_distinct met.nodes_below in
-        let raised = distinct_in_raised n _ records (met_distinct_in records met.records_distinct met.records_below) in
-        let graph =
-        distinct_in_join 0 n n _ nodes _ (omega arith) (omega arith) (omega arith) below raised in
+        let below : AreDistinctIn 0 n nodes = grind (arith, All-from_recursion) in
+        let beneath : AreDistinctIn 0 (length s.records) records = grind (arith, All-from_recursion) in
+        let raised = distinct_in_raised n _ records beneath in
+        let graph = distinct_in_join 0 n n _ nodes _ (omega arith) below raised in
         let roots =
-        distinct_in_join 0 _ m _ (as_cells n nodes records) _ (omega arith) (omega arith) (omega arith) graph
-        (distinct_in_row m held) in
+        distinct_in_join 0 _ m _ (as_cells n nodes records) _ (omega arith) graph (distinct_in_row m held) in
         cells_rooted fixed s h _ (λ k d l. omega (arith, roots.within k d l)) roots.distinct
 
-    all_behind : Extends (roots_behind s nodes records) (order_behind nodes records s)
+    abbrev all : List ℕ
+    all = order_behind nodes records s
+
+    all_behind : Extends (roots_behind s nodes records) all
     all_behind = met_in_extends (all_cells s) (roots_behind s nodes records) (length (all_cells s))
 
-    begins : order_behind nodes records s
-        ≡ as_cells (length s.nodes) nodes records
+    begins : all ≡ as_cells (length s.nodes) nodes records
         ++ (numbers_from (length (parts_graph s)) (length (parts_held s)) ++ all_behind.rest)
     begins = all_behind.is ∙ append_assoc (as_cells (length s.nodes) nodes records) _ _
 
@@ -172,30 +148,22 @@ module _ (fixed : ℕ) (s : Parts) (h : ArePartsInRange fixed s) where
 
     pub records_extended : Extends records
         (records_met (length s.nodes) (length s.records) (order_behind nodes records s))
-    records_extended = first_records s _ nodes records _ begins met.nodes_below met.records_below
+    records_extended = grind (arith, begins, records_first)
 
-    behind_met : AreMet fixed s (nodes_of s (order_behind nodes records s))
-        (records_of s (order_behind nodes records s))
+    behind_met : AreMet fixed s (nodes_of s all) (records_of s all)
     behind_met =
         order_met (roots_behind s nodes records) rooted_behind (extends_more met.fixed_first nodes_extended)
 
-    held_has : (i : ℕ) → i < length s.held → Has (order_behind nodes records s) (length (parts_graph s) + i)
+    held_has : (i : ℕ) → i < length s.held → Has all (length (parts_graph s) + i)
     held_has i l =
         let m = length (parts_graph s) in
-        has_extends all_behind (m + i)
-        (rw (
-          list_any-append,
-          has_at (numbers_from m (length (parts_held s))) i (m + i)
-              (number_at m (length (parts_held s)) i (simp length-map l)),
-        ) (or-true _))
+        let among = has_at (numbers_from m (length (parts_held s))) i (m + i) (number_at m _ i (simp length-map l)) in
+        has_extends all_behind (m + i) (rw (list_any-append, among) (or-true _))
 
-    held_met : AllByRecursion
-        (IsPartMet (nodes_of s (order_behind nodes records s)) (records_of s (order_behind nodes records s))) s.held
+    held_met : AllByRecursion (IsPartMet (nodes_of s all) (records_of s all)) s.held
     held_met =
-        let order = order_behind nodes records s in
         recursion_from_All _ s.held
-        (All-from_get_or (IsPartMet (nodes_of s order) (records_of s order)) s.held no_part (λ i l.
-        rw (← unwrap_or-slice_get s.held i no_part)
+        (all_parts (IsPartMet (nodes_of s all) (records_of s all)) s.held (λ i l.
         (part_met (roots_behind s nodes records) rooted_behind (length (parts_graph s) + i) _ (held_has i l)
         (held_at s i l) (part_all (IsPartBelow (length s.nodes) (length s.records)) s.held h.held i l))))
 
@@ -221,7 +189,5 @@ module _ (fixed : ℕ) (s : Parts) (h : ArePartsInRange fixed s) where
       (omega (arith, ap length walk_met.fixed_first.is, length-append {A = ℕ}, length-numbers_from))
 
   -- the roots of the second walk
-  pub front_roots : IsRooted (parts_graph s ++ parts_held s)
-      (as_cells (length s.nodes) (front_nodes fixed s) (front_records fixed s)
-      ++ numbers_from (length (parts_graph s)) (length (parts_held s)))
+  pub front_roots : IsRooted (all_cells s) (roots_behind s (front_nodes fixed s) (front_records fixed s))
   front_roots = rooted_behind (front_nodes fixed s) (front_records fixed s) front_met

@@ -1,6 +1,6 @@
 -- Canonical parts in bytes: equal bytes are of parts that can be paired, and so are parts that the bytes are of,
 -- cut at any front.
-use Rattle.std.proofs.Common.{◌≡◌, ℕ, ◌↔◌, length, sym, subst}
+use Rattle.std.proofs.Common.{◌≡◌, ℕ, ◌↔◌, length, sym, subst, arith}
 use Rattle.std.proofs.lemmas.List.{length-map}
 use Rattle.std.proofs.lemmas.List.Elements.{length_all_zip}
 use Rattle.tree_machine.specs.Pairing.{IsAmong}
@@ -22,10 +22,7 @@ canonical_codes_exactly fixed s t here there l =
           (canonical_parts fixed t) (simp length-map l) e).0,
       λ p.
           let front = fronts_paired (IsAmong p.0) (IsAmong p.1) fixed s t here there p.2 in
-          let nodes = length_all_zip (IsAmong p.0) _ _ front.0 in
-          let records = length_all_zip (IsAmong p.1) _ _ front.1 in
-          let same = exactly.1 p in
-          λ i. parts_code (record { nodes = nodes i; records = records i }) (same i),
+          grind (arith, length_all_zip (IsAmong p.0), length_all_zip (IsAmong p.1), exactly.1 p),
     )
 
 module _ (fixed : ℕ) (s c : Parts) (front : Front) (range : ArePartsInRange fixed s) (l : length s.held ≡ length c.held)

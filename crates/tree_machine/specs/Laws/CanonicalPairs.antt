@@ -1,18 +1,17 @@
 -- Canonical parts of two states.
-use Rattle.std.proofs.Common.{◌≡◌, ℕ, ◌+◌, ◌-◌, ◌<◌, ◌↔◌, List, length, refl, inl, inr, arith}
+use Rattle.std.proofs.Common.{◌≡◌, ℕ, ◌-◌, ◌↔◌, List, length, refl, arith}
 use Rattle.std.specs.List.{AllZip, zip}
 use Rattle.std.proofs.lemmas.List.{length-map}
 use Rattle.tree_machine.specs.Pairing.{IsAmong}
 use Rattle.tree_machine.specs.Graphs.{numbers_from}
-use Rattle.tree_machine.specs.Parts.{Parts, IsPartsPairing, ArePartsInRange, parts_graph, parts_held, CanPartsBePaired}
+use Rattle.tree_machine.specs.Parts.{Parts, IsPartsPairing, ArePartsInRange, parts_held, CanPartsBePaired}
 use Rattle.tree_machine.specs.Canonical.{nodes_met, records_met, front_order, front_nodes, front_records}
 use Rattle.tree_machine.specs.Canonical.{parts_order, met_nodes, met_records, canonical_parts}
 use Rattle.tree_machine.specs.Laws.Cells.{AllZip-weaker, orders_paired}
 use Rattle.tree_machine.specs.Laws.CellLists.{numbers_zip, zip_join}
 use Rattle.tree_machine.specs.Laws.PartCells.{all_cells, length-parts_graph, Paired, held_long, cells_pairing}
-use Rattle.tree_machine.specs.Laws.PartCells.{paired_node, paired_record}
-use Rattle.tree_machine.specs.Laws.MetLists.{PassAlike, filter_zip, is_node, is_record, map_zip, test_node}
-use Rattle.tree_machine.specs.Laws.MetLists.{test_other, test_record, test_before, test_behind}
+use Rattle.tree_machine.specs.Laws.PartCells.{paired_node}
+use Rattle.tree_machine.specs.Laws.MetLists.{PassAlike, filter_zip, is_node, is_record, map_zip}
 use Rattle.tree_machine.specs.Laws.PartsBy.{by_same, paired_from_same}
 use Rattle.tree_machine.specs.Laws.Canonical.{fixed_cells, front_met, front_same}
 use Rattle.tree_machine.specs.Laws.Canonical.{roots_behind, rooted_behind, walk_held, walk_met}
@@ -22,29 +21,20 @@ module _ (P R : ℕ → ℕ → Type 0) (fixed : ℕ) (s t : Parts) (h : ArePart
   -- both are nodes that P pairs, or neither is a node
   nodes_apart : (x y : ℕ) → Paired P R s t x y
       → PassAlike (is_node (length s.nodes)) (is_node (length t.nodes)) P x y
-  nodes_apart x y (inl (l, k, q)) = inl (test_node _ x l, test_node _ y k, q)
-  nodes_apart x y (inr (l, k, q)) = inr (test_other _ x l, test_other _ y k)
+  nodes_apart x y q = grind arith
 
   -- both are records that R pairs, or neither is a record
   records_apart : (x y : ℕ) → Paired P R s t x y
       → PassAlike (is_record (length s.nodes) (length s.records)) (is_record (length t.nodes) (length t.records))
       (λ x y. R (x - length s.nodes) (y - length t.nodes)) x y
-  records_apart x y (inl (l, k, q)) = inr (test_before _ _ x l, test_before _ _ y k)
-  records_apart x y (inr (l, k, inl (i, j, q))) =
-      inl (test_record _ _ x l (omega arith), test_record _ _ y k (omega arith), q)
-  records_apart x y (inr (l, k, inr (i, j, q))) =
-      inr (test_behind _ _ x (omega arith), test_behind _ _ y (omega arith))
+  records_apart x y q = grind arith
 
   -- orders that are paired have paired nodes and paired records
   split_pairs : (xs ys : List ℕ) → AllZip (Paired P R s t) xs ys
       → AllZip P (nodes_met (length s.nodes) xs) (nodes_met (length t.nodes) ys)
       × AllZip R (records_met (length s.nodes) (length s.records) xs)
       (records_met (length t.nodes) (length t.records) ys)
-  split_pairs xs ys z = (
-    filter_zip (Paired P R s t) P _ _ nodes_apart xs ys z,
-    map_zip R (λ x. x - length s.nodes) (λ y. y - length t.nodes) _ _
-        (filter_zip (Paired P R s t) _ _ _ records_apart xs ys z),
-  )
+  split_pairs xs ys z = grind (arith, filter_zip, nodes_apart, map_zip, records_apart)
 
   -- what comes in front is paired, like by like
   pub fronts_paired : AllZip P (front_nodes fixed s) (front_nodes fixed t)
@@ -65,18 +55,8 @@ module _ (P R : ℕ → ℕ → Type 0) (fixed : ℕ) (s t : Parts) (h : ArePart
       let Q : ℕ → ℕ → Type 0 = Paired P R s t in
       let front = fronts_paired in
       let long : length (parts_held s) ≡ length (parts_held t) = simp length-map (held_long P R s t fixed p) in
-      zip_join Q _ _ _ _
-      (zip_join Q (front_nodes fixed s) (front_nodes fixed t) _ _
-      (AllZip-weaker P Q (paired_node P R s t fixed p) _ _ front.0)
-      (map_zip Q _ _ _ _
-      (AllZip-weaker R (λ x y. Q (length s.nodes + x) (length t.nodes + y)) (paired_record P R s t fixed p)
-      _ _ front.1)))
-      (numbers_zip Q (length (parts_graph s)) (length (parts_graph t)) (length (parts_held s)) _ long
-      (λ i x y l e f.
-      let here = length-parts_graph s in
-      let there = length-parts_graph t in
-      let within : i < length s.held = rw length-map at l in
-      inr (omega arith, omega arith, inr (omega arith, omega arith, (omega arith, omega arith)))))
+      let node = paired_node P R s t fixed p in
+      grind (arith, length-map, zip_join, AllZip-weaker, map_zip, numbers_zip, length-parts_graph)
 
   -- and so is all that is met
   pub same_from_pairing : canonical_parts fixed s ≡ canonical_parts fixed t

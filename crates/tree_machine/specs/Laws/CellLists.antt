@@ -3,15 +3,17 @@ use Rattle.std.proofs.Common.{◌≡◌, ℕ, zero, suc, ◌+◌, ◌<◌, ◌�
 use Rattle.std.proofs.Common.{length-append, refl}
 use Rattle.std.specs.Prelude.{slice_get, Option, Some, None, nat_eq}
 use Rattle.std.specs.List.{AllZip, All, AllByRecursion, IsDistinct}
-use Rattle.std.proofs.lemmas.List.Elements.{All-append, All-from_recursion, All-head, All-map, All-tail}
+use Rattle.std.proofs.lemmas.List.Elements.{All-append, All-from_recursion, All-map}
 use Rattle.std.proofs.lemmas.List.Elements.{recursion_from_All}
 use Rattle.std.proofs.lemmas.List.{get_or_append_left, get_or-append-add}
+use Rattle.std.proofs.lemmas.Map.Keys.{apart_from_distinct, IsDistinct-from_apart}
+use Rattle.std.proofs.Math.Seq.{of_parts}
 use Rattle.std.proofs.lemmas.Option.{unwrap_or-slice_get}
 use Rattle.tree_machine.specs.Cells.{Content, IsRooted, content_at, met_all, visited, met_in, order_of}
 use Rattle.tree_machine.specs.Graphs.{numbers_from}
 use Rattle.tree_machine.specs.Laws.CellOrder.{IsOrder, met_in_order, met_in_stable}
 use Rattle.tree_machine.specs.Laws.CellPlaces.{has_at}
-use Rattle.tree_machine.specs.Laws.CellSteps.{same_tests, is_other}
+use Rattle.tree_machine.specs.Laws.CellSteps.{same_tests}
 
 -- ---- lists end to end
 
@@ -22,8 +24,7 @@ pub content_back : (xs ys : List Content) (i : ℕ) → content_at (xs ++ ys) (l
 content_back xs ys i = simp unwrap_or-slice_get (get_or-append-add xs ys i _)
 
 pub zip_join : {A B : Type 0} (P : A → B → Type 0) (xs : List A) (ys : List B) (us : List A) (vs : List B)
-    → AllZip P xs ys
-    → AllZip P us vs → AllZip P (xs ++ us) (ys ++ vs)
+    → AllZip P xs ys → AllZip P us vs → AllZip P (xs ++ us) (ys ++ vs)
 zip_join P [] [] us vs z w = w
 zip_join P (x ∷ xs) (y ∷ ys) us vs z w = (z.0, zip_join P xs ys us vs z.1 w)
 zip_join P _ _ us vs z w = absurd z
@@ -31,11 +32,8 @@ zip_join P _ _ us vs z w = absurd z
 pub numbers_zip : (P : ℕ → ℕ → Type 0) (a b n m : ℕ) → n ≡ m
     → ((i x y : ℕ) → i < n → x ≡ a + i → y ≡ b + i → P x y) → AllZip P (numbers_from a n) (numbers_from b m)
 numbers_zip P a b zero zero many h = tt
-numbers_zip P a b (suc n) (suc m) many h = (
-  h 0 a b (omega arith) (omega arith) (omega arith),
-  numbers_zip P (suc a) (suc b) n m (omega arith)
-      (λ i x y l e f. h (suc i) x y (omega arith) (omega arith) (omega arith)),
-)
+numbers_zip P a b (suc n) (suc m) many h =
+    (grind (arith, h 0 a b), numbers_zip P (suc a) (suc b) n m (omega arith) (λ i x y. grind (arith, h (suc i) x y)))
 numbers_zip P a b _ _ many h = absurd (omega arith)
 
 pub numbers_all : (P : ℕ → Type 0) (a n : ℕ) → ((x : ℕ) → a ≤ x → x < a + n → P x) → All P (numbers_from a n)
@@ -55,25 +53,12 @@ pub record AreDistinctIn (low high : ℕ) (xs : List ℕ) : Type 0 where
   pub within : All (λ x. (low ≤ x) × (x < high)) xs
 
 -- two such lists end to end
-pub distinct_in_join : (a b c d : ℕ) (xs ys : List ℕ) → a ≤ c → b ≤ c → b ≤ d → AreDistinctIn a b xs
+pub distinct_in_join : (a b c d : ℕ) (xs ys : List ℕ) → (a ≤ c) × (b ≤ c) × (b ≤ d) → AreDistinctIn a b xs
     → AreDistinctIn c d ys → AreDistinctIn a d (xs ++ ys)
-unfolding IsDistinct
-distinct_in_join a b c d xs ys low apart high h g = record {
-  distinct = go xs h.distinct (λ k e l. (h.within k e l).1);
-  within =
-      All-append (λ x. (a ≤ x) × (x < d)) xs ys
-      (λ k e l. let r = h.within k e l in (r.0, omega arith)) (λ k e l. let r = g.within k e l in (omega arith, r.1));
-}
-  where
-    go : (xs : List ℕ) → IsDistinct nat_eq xs → All (λ x. x < b) xs → IsDistinct nat_eq (xs ++ ys)
-    go [] distinct below = g.distinct
-    go (x ∷ xs) distinct below =
-        let first = All-head (λ x. x < b) x xs below in (
-          recursion_from_All _ (xs ++ ys)
-              (All-append (λ y. nat_eq x y ≡ false) xs ys (All-from_recursion _ xs distinct.0)
-              (λ k e l. is_other x _ (λ same. omega (arith, same, g.within k e l)))),
-          go xs distinct.1 (All-tail (λ x. x < b) x xs below),
-        )
+distinct_in_join a b c d xs ys rise h g =
+    let here = λ (i : ℕ) (j : ℕ) (e : ℕ). apart_from_distinct nat_eq xs i j e h.distinct in
+    let there = λ (i : ℕ) (j : ℕ) (e : ℕ). apart_from_distinct nat_eq ys i j e g.distinct in
+    grind (arith, IsDistinct-from_apart, of_parts, All-append)
 
 pub distinct_in_row : (a n : ℕ) → AreDistinctIn a (a + n) (numbers_from a n)
 unfolding IsDistinct
@@ -82,24 +67,20 @@ distinct_in_row a n =
   where
     go : (a n : ℕ) → IsDistinct nat_eq (numbers_from a n)
     go a zero = tt
-    go a (suc n) = (
-      recursion_from_All _ _
-          (numbers_all (λ x. nat_eq a x ≡ false) (suc a) n (λ x l k. is_other a x (λ e. omega arith))),
-      go (suc a) n,
-    )
+    go a (suc n) =
+        let apart = numbers_all (λ x. nat_eq a x ≡ false) (suc a) n (λ x l k. grind arith) in
+        (recursion_from_All _ _ apart, go (suc a) n)
 
 -- distinct numbers stay distinct under a map that is one to one among them
 pub mapped_distinct : (P : ℕ → Type 0) (f : ℕ → ℕ) → ((x y : ℕ) → P x → P y → f x ≡ f y → x ≡ y) → (xs : List ℕ)
     → AllByRecursion P xs → IsDistinct nat_eq xs → IsDistinct nat_eq (map f xs)
 unfolding IsDistinct
 mapped_distinct P f one [] a d = tt
-mapped_distinct P f one (x ∷ xs) a d = (
-  recursion_from_All _ _
-      (All-map (λ y. nat_eq (f x) y ≡ false) f xs (λ k c l.
-      same_tests (f x) x _ _ (one x _ a.0 (All-from_recursion P xs a.1 k c l), λ e. ap f e)
-      ∙ All-from_recursion (λ y. nat_eq x y ≡ false) xs d.0 k c l)),
-  mapped_distinct P f one xs a.1 d.1,
-)
+mapped_distinct P f one (x ∷ xs) a d =
+    let apart = λ (k : ℕ) (c : ℕ) (l : k < length xs).
+    same_tests (f x) x _ _ (one x _ a.0 (All-from_recursion P xs a.1 k c l), λ e. ap f e)
+    ∙ All-from_recursion (λ y. nat_eq x y ≡ false) xs d.0 k c l in
+    (recursion_from_All _ _ (All-map (λ y. nat_eq (f x) y ≡ false) f xs apart), mapped_distinct P f one xs a.1 d.1)
 
 -- and one whose numbers are all raised
 pub distinct_in_raised : (n r : ℕ) (xs : List ℕ) → AreDistinctIn 0 r xs → AreDistinctIn n (n + r) (map (λ x. n + x) xs)
@@ -107,8 +88,7 @@ distinct_in_raised n r xs h = record {
   distinct =
       mapped_distinct (λ x. (0 ≤ x) × (x < r)) (λ x. n + x) (λ x y _ _ e. omega (arith, e)) xs
       (recursion_from_All _ xs h.within) h.distinct;
-  within =
-      All-map (λ x. (n ≤ x) × (x < n + r)) _ xs (λ k d l. let p = h.within k d l in (omega arith, omega arith));
+  within = All-map (λ x. (n ≤ x) × (x < n + r)) _ xs (λ k d l. omega (arith, h.within k d l));
 }
 
 -- ---- a walk goes the same way where other cells come behind
@@ -122,11 +102,7 @@ module _ (graph held : List Content) (roots : List ℕ) (h : IsRooted graph root
 
   met_in_front : (n : ℕ) → met_in (graph ++ held) roots n ≡ met_in graph roots n
   met_in_front zero = refl
-  met_in_front (suc n) =
-      ap (λ o. visited (graph ++ held) o (slice_get o n)) (met_in_front n)
-      ∙ visited_front (met_in graph roots n) n (met_in_order graph roots h n) _ refl
+  met_in_front (suc n) = grind (arith, met_in_front n, visited_front, met_in_order)
 
   pub order_front : order_of (graph ++ held) roots ≡ order_of graph roots
-  order_front =
-      ap (met_in (graph ++ held) roots) (length-append graph held)
-      ∙ (met_in_front (length graph + length held) ∙ met_in_stable graph roots h (length held))
+  order_front = grind (arith, length-append, met_in_front, met_in_stable)

@@ -1,18 +1,18 @@
 -- The cells that a walk meets, in their order: distinct, in range, and closed.
-use Rattle.std.proofs.Common.{◌≡◌, ℕ, zero, suc, ◌+◌, ◌<◌, ◌≤◌, true, List, [], ◌∷◌, ◌++◌, length, refl, sym, ap, subst}
-use Rattle.std.proofs.Common.{inl, inr, arith, append_assoc, add-suc, add-zero, get_or, append-nil}
+use Rattle.std.proofs.Common.{◌≡◌, ℕ, zero, suc, ◌+◌, ◌<◌, ◌≤◌, true, List, [], ◌∷◌, ◌++◌, length, refl, sym, ap}
+use Rattle.std.proofs.Common.{arith, append_assoc, add-suc, add-zero, get_or, append-nil}
 use Rattle.std.specs.Prelude.{slice_get, Option, Some, None, nat_eq, ⊤, IfSome}
 use Rattle.std.specs.Cmp.{IsEquivalence}
-use Rattle.std.specs.List.{list_any, All, AllByRecursion, IsDistinct}
-use Rattle.std.proofs.lemmas.Bool.{cases_eq, cases_lt, cond_both, eq-eqb, eqb-true, or_cases}
+use Rattle.std.specs.List.{list_any, AllByRecursion, IsDistinct}
+use Rattle.std.proofs.lemmas.Bool.{cases_lt, cond_both, eq-eqb}
+use Rattle.std.proofs.lemmas.Cmp.{nat_eq_equiv}
 use Rattle.std.proofs.lemmas.List.Elements.{recursion_from_All, All-get_or}
 use Rattle.std.proofs.lemmas.List.Folds.{list_any-append}
 use Rattle.std.proofs.lemmas.Map.Keys.{IsDistinct-push}
 use Rattle.std.proofs.lemmas.Map.Steps.{length-le_from_distinct_below}
 use Rattle.std.proofs.lemmas.Option.{slice_get_past, slice_get_within, slice_get-get_or, unwrap_or-slice_get}
-use Rattle.std.proofs.Math.Bool.{or-false, or-true}
+use Rattle.std.proofs.Math.Bool.{or-true}
 use Rattle.tree_machine.specs.Cells.{Content, met, met_all, visited, met_in, content_at, order_of, IsRooted}
-use Rattle.tree_machine.specs.Laws.CellSteps.{same_tests}
 
 -- x is in xs
 abbrev pub Has : List ℕ → ℕ → Type 0
@@ -39,19 +39,14 @@ pub has_itself : (x : ℕ) → nat_eq x x ≡ true
 has_itself x = eq-eqb x x refl
 
 pub nat_equivalence : IsEquivalence nat_eq
-nat_equivalence = record {
-  refl = has_itself;
-  symm = λ x y. same_tests x y y x (λ e. sym e, λ e. sym e);
-  congr = λ x y z h. ap (λ w. nat_eq w z) (eqb-true x y h);
-}
+nat_equivalence = nat_eq_equiv
 
 pub has_extends : {xs ys : List ℕ} → Extends xs ys → (x : ℕ) → Has xs x → Has ys x
 has_extends e x h = rw (e.is, list_any-append, h) refl
 
 pub has_all_extends : {xs ys : List ℕ} → Extends xs ys → (refs : List (Option ℕ)) → HasAll xs refs → HasAll ys refs
 has_all_extends e [] h = tt
-has_all_extends e (None ∷ refs) h = has_all_extends e refs h
-has_all_extends e (Some x ∷ refs) h = (has_extends e x h.0, has_all_extends e refs h.1)
+has_all_extends e (r ∷ refs) h = grind (arith, has_extends e, has_all_extends e refs)
 
 pub get_append : (xs zs : List ℕ) (k x : ℕ) → slice_get xs k ≡ Some x → slice_get (xs ++ zs) k ≡ Some x
 get_append [] zs k x h = cc
@@ -64,14 +59,10 @@ get_extends {xs} e k x h = rw e.is (get_append xs e.rest k x h)
 -- ---- one more cell
 
 pub met_extends : (order : List ℕ) (x : ℕ) → Extends order (met order x)
-met_extends order x =
-    cond_both (list_any (nat_eq x) order) order _ (Extends order)
-    (λ _. extends_itself order) (λ _. record { rest = x ∷ []; is = refl })
+met_extends order x = grind (arith, cond_both, extends_itself)
 
 pub met_has : (order : List ℕ) (x : ℕ) → Has (met order x) x
-met_has order x =
-    cond_both (list_any (nat_eq x) order) order (order ++ x ∷ []) (λ o. Has o x)
-    (λ h. h) (λ h. rw (list_any-append, has_itself x) (or-true _))
+met_has order x = grind (arith, cond_both, list_any-append, has_itself, or-true)
 
 pub met_all_extends : (refs : List (Option ℕ)) (order : List ℕ) → Extends order (met_all order refs)
 met_all_extends [] order = extends_itself order
@@ -80,9 +71,7 @@ met_all_extends (Some x ∷ refs) order = extends_more (met_extends order x) (me
 
 pub met_all_has : (refs : List (Option ℕ)) (order : List ℕ) → HasAll (met_all order refs) refs
 met_all_has [] order = tt
-met_all_has (None ∷ refs) order = met_all_has refs order
-met_all_has (Some x ∷ refs) order =
-    (has_extends (met_all_extends refs (met order x)) x (met_has order x), met_all_has refs (met order x))
+met_all_has (r ∷ refs) order = grind (arith, met_all_has refs, has_extends, met_all_extends refs, met_has)
 
 -- ---- distinct cells, each below n
 
@@ -91,14 +80,7 @@ pub record IsOrder (n : ℕ) (order : List ℕ) : Type 0 where
   pub below : (x : ℕ) → Has order x → x < n
 
 pub met_order : (n : ℕ) (order : List ℕ) (x : ℕ) → x < n → IsOrder n order → IsOrder n (met order x)
-met_order n order x l h =
-    cond_both (list_any (nat_eq x) order) order _ (IsOrder n) (λ _. h) (λ e. record {
-      distinct = IsDistinct-push nat_equivalence order x h.distinct e;
-      below = λ y g. elim (or_cases (list_any (nat_eq y) order) (nat_eq y x) (rw (list_any-append, or-false) at g)) [
-        | inl m ↦ h.below y m
-        | inr m ↦ rw (eqb-true y x m) l
-      ];
-    })
+met_order n order x l h = grind (arith, cond_both, IsDistinct-push, nat_equivalence, list_any-append)
 
 -- each ref is none or below n
 abbrev pub RefsBelow : ℕ → List (Option ℕ) → Type 0
@@ -118,28 +100,11 @@ length-order n order h = length-le_from_distinct_below order n h.distinct h.belo
 -- what holds of each element holds of one that is there
 pub all_has : (P : ℕ → Type 0) (xs : List ℕ) → AllByRecursion P xs → (x : ℕ) → Has xs x → P x
 all_has P [] h x g = cc
-all_has P (y ∷ xs) h x g =
-    elim (or_cases (nat_eq x y) (list_any (nat_eq x) xs) g) [
-      | inl e ↦ subst P (sym (eqb-true x y e)) h.0
-      | inr e ↦ all_has P xs h.1 x e
-    ]
-
--- what holds of each one that is there holds of each element
-pub all_from_has : (P : ℕ → Type 0) (xs : List ℕ) → ((x : ℕ) → Has xs x → P x) → AllByRecursion P xs
-all_from_has P [] h = tt
-all_from_has P (x ∷ xs) h =
-    (h x (rw (has_itself x) refl), all_from_has P xs (λ y g. h y (rw g (or-true (nat_eq y x)))))
+all_has P (y ∷ xs) h x g = grind (arith, h.0, all_has P xs h.1 x)
 
 module _ (cells : List Content) (roots : List ℕ) (h : IsRooted cells roots) where
   refs_below : (x : ℕ) → RefsBelow (length cells) (content_at cells x).refs
-  refs_below x =
-      elim (cases_lt x (length cells)) [
-        | inl l ↦
-            recursion_from_All _ _
-            (rw unwrap_or-slice_get (All-get_or (λ c. All (λ r. IfSome r (λ x. x < length cells)) c.refs) cells x _ l
-            h.refs_in_range))
-        | inr l ↦ rw (slice_get_past cells x l) tt
-      ]
+  refs_below x = grind (arith, cases_lt, recursion_from_All, unwrap_or-slice_get, All-get_or, slice_get_past)
 
   visited_order : (order : List ℕ) (r : Option ℕ) → IsOrder (length cells) order
       → IsOrder (length cells) (visited cells order r)
@@ -147,10 +112,8 @@ module _ (cells : List Content) (roots : List ℕ) (h : IsRooted cells roots) wh
   visited_order order (Some x) g = met_all_order (length cells) (content_at cells x).refs order (refs_below x) g
 
   pub met_in_order : (n : ℕ) → IsOrder (length cells) (met_in cells roots n)
-  met_in_order zero = record {
-    distinct = h.roots_distinct;
-    below = all_has (λ x. x < length cells) roots (recursion_from_All _ roots h.roots_in_range);
-  }
+  met_in_order zero =
+      grind (arith, all_has (λ x. x < length cells) roots (recursion_from_All _ roots h.roots_in_range))
   met_in_order (suc n) = visited_order (met_in cells roots n) _ (met_in_order n)
 
   -- after a visit for each cell there is nothing more to visit
@@ -158,10 +121,8 @@ module _ (cells : List Content) (roots : List ℕ) (h : IsRooted cells roots) wh
   met_in_stable zero = ap (met_in cells roots) (add-zero (length cells))
   met_in_stable (suc n) =
       let m = length cells + n in
-      let past : slice_get (met_in cells roots m) m ≡ None =
-      slice_get_past (met_in cells roots m) m
-      (omega (arith, length-order (length cells) (met_in cells roots m) (met_in_order m))) in
-      rw (add-suc (length cells) n, past) (met_in_stable n)
+      let short = length-order (length cells) (met_in cells roots m) (met_in_order m) in
+      rw (add-suc (length cells) n, slice_get_past (met_in cells roots m) m (omega arith)) (met_in_stable n)
 
 pub visited_extends : (cells : List Content) (order : List ℕ) (r : Option ℕ) → Extends order (visited cells order r)
 visited_extends cells order None = extends_itself order
@@ -169,8 +130,7 @@ visited_extends cells order (Some x) = met_all_extends (content_at cells x).refs
 
 pub met_in_extends : (cells : List Content) (roots : List ℕ) (n : ℕ) → Extends roots (met_in cells roots n)
 met_in_extends cells roots zero = extends_itself roots
-met_in_extends cells roots (suc n) =
-    extends_more (met_in_extends cells roots n) (visited_extends cells (met_in cells roots n) _)
+met_in_extends cells roots (suc n) = grind (arith, met_in_extends cells roots n, extends_more, visited_extends)
 
 -- the first n cells of the order have all their refs in it
 abbrev IsClosedBelow : List Content → ℕ → List ℕ → Type 0
@@ -178,17 +138,13 @@ IsClosedBelow cells n order = (k x : ℕ) → k < n → slice_get order k ≡ So
 
 visited_closed : (cells : List Content) (n : ℕ) (order : List ℕ) → IsClosedBelow cells n order → (r : Option ℕ)
     → slice_get order n ≡ r → IsClosedBelow cells (suc n) (visited cells order r)
-visited_closed cells n order h None at k x l g =
-    elim (cases_eq k n) [ inl e ↦ cc | inr other ↦ h k x (omega arith) g ]
+visited_closed cells n order h None at k x l g = grind (arith, h k x)
 visited_closed cells n order h (Some z) at k x l g =
     let more = visited_extends cells order (Some z) in
     let far = slice_get_within order n z at in
     let there = slice_get-get_or order k x (omega arith) in
     let here : slice_get order k ≡ Some x = cc (there, get_extends more k (get_or order k x) there, g) in
-    elim (cases_eq k n) [
-      | inl e ↦ let same : z ≡ x = cc in rw (← same) (met_all_has (content_at cells z).refs order)
-      | inr other ↦ has_all_extends more (content_at cells x).refs (h k x (omega arith) here)
-    ]
+    grind (arith, h k x, has_all_extends more (content_at cells x).refs, met_all_has (content_at cells z).refs order)
 
 pub met_in_closed : (cells : List Content) (roots : List ℕ) (n : ℕ) → IsClosedBelow cells n (met_in cells roots n)
 met_in_closed cells roots zero = λ k x l. absurd (omega arith)
@@ -198,6 +154,5 @@ met_in_closed cells roots (suc n) = visited_closed cells n (met_in cells roots n
 pub order_closed : (cells : List Content) (roots : List ℕ) → IsRooted cells roots → (k x : ℕ)
     → slice_get (order_of cells roots) k ≡ Some x → HasAll (order_of cells roots) (content_at cells x).refs
 order_closed cells roots h k x at =
-    let order = met_in_order cells roots h (length cells) in
-    met_in_closed cells roots (length cells) k x
-    (omega (arith, slice_get_within _ k x at, length-order (length cells) _ order)) at
+    let short = length-order (length cells) _ (met_in_order cells roots h (length cells)) in
+    met_in_closed cells roots (length cells) k x (omega (arith, slice_get_within _ k x at)) at

@@ -1,6 +1,5 @@
 -- Canonical forms are equal exactly where the cells can be paired.
-use Rattle.std.proofs.Common.{◌≡◌, ℕ, zero, suc, ◌+◌, ◌↔◌, List, [], ◌∷◌, map, length, refl, sym, ◌∙◌, ap, subst}
-use Rattle.std.proofs.Common.{arith, add_comm}
+use Rattle.std.proofs.Common.{◌≡◌, ℕ, zero, suc, ◌+◌, ◌↔◌, List, [], ◌∷◌, map, length, refl, ◌∙◌, ap, arith, add_comm}
 use Rattle.std.specs.Prelude.{slice_get, Option, Some, None}
 use Rattle.std.specs.List.{AllZip, zip}
 use Rattle.std.specs.Option.{option_and_then}
@@ -25,19 +24,17 @@ module _ (P : ℕ → ℕ → Type 0) (cells others : List Content) (roots targe
     (aimed : IsRooted others targets) (h : IsPairing P cells roots others targets) where
   pub orders_paired : AllZip P (order_of cells roots) (order_of others targets)
   orders_paired =
-      subst (λ xs. AllZip P xs (order_of others targets)) (met_in_stable cells roots rooted (length others))
-      (subst (λ ys. AllZip P (met_in cells roots (length cells + length others)) ys)
-      (ap (met_in others targets) (add_comm (length cells) (length others))
-      ∙ met_in_stable others targets aimed (length cells))
-      (met_in_paired P cells others roots targets h (length cells + length others)))
+      let m = length cells + length others in
+      rw (
+        met_in_stable cells roots rooted (length others),
+        ap (met_in others targets) (add_comm (length cells) (length others)),
+        met_in_stable others targets aimed (length cells),
+      ) at (met_in_paired P cells others roots targets h m)
 
   pub equal_from_pairing : canonical cells roots ≡ canonical others targets
   equal_from_pairing =
       map_paired P _ _
-      (λ x y p.
-      let facts = h.facts_equal x y p in
-      let refs = refs_renamed P h.one_to_one _ _ orders_paired _ _ (h.refs_paired x y p) in
-      λ i. record { facts = facts i; refs = refs i })
+      (λ x y p. cc (h.facts_equal x y p, refs_renamed P h.one_to_one _ _ orders_paired _ _ (h.refs_paired x y p)))
       (order_of cells roots) (order_of others targets) orders_paired
 
 -- ---- from equal results to a pairing
@@ -49,8 +46,7 @@ unmap f g (x ∷ xs) (y ∷ ys) e = (cc, unmap f g xs ys (cc))
 unmap f g _ _ e = cc
 
 pub AllZip-weaker : {A B : Type 0} (P Q : A → B → Type 0) → ((x : A) (y : B) → P x y → Q x y)
-    → (xs : List A) (ys : List B)
-    → AllZip P xs ys → AllZip Q xs ys
+    → (xs : List A) (ys : List B) → AllZip P xs ys → AllZip Q xs ys
 AllZip-weaker P Q h [] [] z = tt
 AllZip-weaker P Q h (x ∷ xs) (y ∷ ys) z = (h x y z.0, AllZip-weaker P Q h xs ys z.1)
 AllZip-weaker P Q h _ _ z = absurd z
@@ -59,8 +55,7 @@ AllZip-weaker P Q h _ _ z = absurd z
 zip_at_each : (P : ℕ → ℕ → Type 0) (xs ys : List ℕ) → length xs ≡ length ys
     → ((k x y : ℕ) → slice_get xs k ≡ Some x → slice_get ys k ≡ Some y → P x y) → AllZip P xs ys
 zip_at_each P [] [] l h = tt
-zip_at_each P (x ∷ xs) (y ∷ ys) l h =
-    (h zero x y refl refl, zip_at_each P xs ys (omega arith) (λ k. h (suc k)))
+zip_at_each P (x ∷ xs) (y ∷ ys) l h = (h zero x y refl refl, zip_at_each P xs ys (omega arith) (λ k. h (suc k)))
 zip_at_each P _ _ l h = absurd (omega arith)
 
 pub refs_from_renamed : (xs ys : List ℕ) (refs sefs : List (Option ℕ)) → HasAll xs refs → HasAll ys sefs
@@ -68,18 +63,12 @@ pub refs_from_renamed : (xs ys : List ℕ) (refs sefs : List (Option ℕ)) → H
     → AllZip (IsPairedOrNone (IsAmong (zip xs ys))) refs sefs
 refs_from_renamed xs ys [] [] h g e = tt
 refs_from_renamed xs ys (None ∷ refs) (None ∷ sefs) h g e = (tt, refs_from_renamed xs ys refs sefs h g (cc))
-refs_from_renamed xs ys (None ∷ refs) (Some y ∷ sefs) h g e =
-    let k = place_from_has ys y g.0 in
-    cc k.1
-refs_from_renamed xs ys (Some x ∷ refs) (None ∷ sefs) h g e =
-    let k = place_from_has xs x h.0 in
-    cc k.1
+refs_from_renamed xs ys (None ∷ refs) (Some y ∷ sefs) h g e = let k = place_from_has ys y g.0 in cc k.1
+refs_from_renamed xs ys (Some x ∷ refs) (None ∷ sefs) h g e = let k = place_from_has xs x h.0 in cc k.1
 refs_from_renamed xs ys (Some x ∷ refs) (Some y ∷ sefs) h g e =
     let k = place_from_has xs x h.0 in
-    let same : place_in xs x ≡ place_in ys y = cc in (
-      among_at xs ys k.0 x y (get_place xs x k.0 k.1) (get_place ys y k.0 (sym same ∙ k.1)),
-      refs_from_renamed xs ys refs sefs h.1 g.1 (cc),
-    )
+    let here = among_at xs ys k.0 x y (get_place xs x k.0 k.1) (get_place ys y k.0 (cc (e, k.1))) in
+    (here, refs_from_renamed xs ys refs sefs h.1 g.1 (cc))
 refs_from_renamed xs ys _ _ h g e = cc
 
 module _ (cells others : List Content) (roots targets : List ℕ) (rooted : IsRooted cells roots)
@@ -97,24 +86,18 @@ module _ (cells others : List Content) (roots targets : List ℕ) (rooted : IsRo
       let same = unmap (λ x. renamed xs (content_at cells x)) (λ y. renamed ys (content_at others y)) xs ys e in
       record {
         one_to_one = zip_one xs ys here.distinct there.distinct;
-        in_range = λ x y h.
-            let p = at_among xs ys x y h in
-            (here.below x (has_at xs p.0 x p.1), there.below y (has_at ys p.0 y p.2));
+        in_range = λ x y h. grind (arith, at_among xs ys x y h, has_at, here.below x, there.below y);
         roots_paired = zip_at_each _ roots targets l (λ k x y h g.
             among_at xs ys k x y (get_extends front_x k x h) (get_extends front_y k y g));
         facts_equal = λ x y h. ap (λ c. c.facts) (rel_among _ xs ys same x y h);
         refs_paired = λ x y h.
-            let p = at_among xs ys x y h in
-            refs_from_renamed xs ys _ _ (order_closed cells roots rooted p.0 x p.1)
-            (order_closed others targets aimed p.0 y p.2) (ap (λ c. c.refs) (rel_among _ xs ys same x y h));
+            let alike = rel_among _ xs ys same x y h in
+            grind (arith, at_among xs ys x y h, refs_from_renamed, order_closed);
       }
 
   -- two results are equal exactly if some set of pairs is a pairing
   pub canonical_exactly : (canonical cells roots ≡ canonical others targets) ↔ CanBePaired cells roots others targets
-  canonical_exactly = (
-    λ e. (zip (order_of cells roots) (order_of others targets), pairing_from_equal e),
-    λ p. equal_from_pairing (IsAmong p.0) cells others roots targets rooted aimed p.1,
-  )
+  canonical_exactly = grind (arith, pairing_from_equal, equal_from_pairing)
 
 -- the answer of a walk that met this order
 pub answer_is : (cells : List Content) (roots order : List ℕ) (answer : List Content) → order ≡ order_of cells roots
@@ -126,6 +109,4 @@ pub answer_exactly : (cells others : List Content) (roots targets order : List �
     → IsRooted others targets → length roots ≡ length targets →
     (answer ≡ canonical others targets) ↔ CanBePaired cells roots others targets
 answer_exactly cells others roots targets order answer e h rooted aimed l =
-    let is = answer_is cells roots order answer e h in
-    let exactly = canonical_exactly cells others roots targets rooted aimed l in
-    (λ g. exactly.0 (sym is ∙ g), λ p. is ∙ exactly.1 p)
+    grind (arith, answer_is cells roots order answer e h, canonical_exactly)

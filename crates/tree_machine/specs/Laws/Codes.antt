@@ -1,7 +1,7 @@
 -- Bytes determine what they are of: nodes, records and what threads hold, and states.
 use Rattle.std.proofs.Common.{◌≡◌, ℕ, List, [], ◌∷◌, ◌++◌, map, length, take, drop}
-use Rattle.std.proofs.Common.{refl, sym, ◌∙◌, ap, arith, append_assoc, append-nil, length-append}
-use Rattle.std.specs.Prelude.{Option, Some, None}
+use Rattle.std.proofs.Common.{refl, sym, ap, arith, append_assoc, append-nil, length-append}
+use Rattle.std.specs.Prelude.{Option}
 use Rattle.std.proofs.lemmas.List.{length-map, take-append-drop}
 use Rattle.tree_machine.specs.Cells.{Content}
 use Rattle.tree_machine.specs.Parts.{Part, Parts}
@@ -10,8 +10,8 @@ use Rattle.tree_machine.specs.Flat.{parts_code, reference_number}
 use Rattle.tree_machine.specs.Laws.Flat.{each_readable, facts_split, number_read, number_split}
 use Rattle.tree_machine.specs.declared.front.Front.{Front}
 use Rattle.tree_machine.specs.Alike.{FormContent, places_of, replies_of, notes_of}
-use Rattle.tree_machine.specs.FormCode.{IsInjective, TellsWholly, content_code, cut_code, state_code}
-use Rattle.tree_machine.specs.Laws.FormCode.{content_readable, halves, state_content}
+use Rattle.tree_machine.specs.FormCode.{IsInjective, TellsWholly, cut_code, state_code}
+use Rattle.tree_machine.specs.Laws.FormCode.{halves, state_content, state_pieces}
 use Rattle.tree_machine.specs.declared.state.Thread.{Thread}
 use Rattle.tree_machine.specs.declared.state.State.{State}
 
@@ -19,35 +19,25 @@ use Rattle.tree_machine.specs.declared.state.State.{State}
 pub map_tells : {X Y : Type 0} (f : X → Y) → ((x y : X) → f x ≡ f y → x ≡ y) → (xs ys : List X) → map f xs ≡ map f ys
     → xs ≡ ys
 map_tells f tells [] [] e = refl
-map_tells f tells (x ∷ xs) (y ∷ ys) e =
-    cc (tells x y (cc), map_tells f tells xs ys (cc))
+map_tells f tells (x ∷ xs) (y ∷ ys) e = cc (tells x y (cc), map_tells f tells xs ys (cc))
 map_tells f tells _ _ e = cc
 
 -- ---- cells
 
 reference_same : (r s : Option ℕ) → reference_number r ≡ reference_number s → r ≡ s
-reference_same None None e = refl
-reference_same (Some x) (Some y) e = cc
-reference_same _ _ e = absurd (omega arith)
+reference_same r s e = grind arith
 
 cell_split : (c d : Content) (xs ys : List ℕ) → cell_code c ++ xs ≡ cell_code d ++ ys → (c ≡ d) × (xs ≡ ys)
 cell_split c d xs ys e =
     let facts = facts_split c.facts d.facts (length c.refs) (length d.refs) _ _ (simp append_assoc at e) in
     let refs = each_readable number_code number_split (map reference_number c.refs) (map reference_number d.refs) xs ys
     (simp length-map facts.1) facts.2 in
-    let same = map_tells reference_number reference_same c.refs d.refs refs.0 in
-    (λ i. record { facts = facts.0 i; refs = same i }, refs.1)
+    grind (arith, map_tells reference_number reference_same c.refs d.refs)
 
 -- ---- parts
 
 same_part : (p q : Part) → part_content p ≡ part_content q → p ≡ q
-same_part p q e =
-    let f = ap (λ (c : Content). c.facts) e in
-    let r = ap (λ (c : Content). c.refs) e in
-    let lengths : length p.nodes ≡ length q.nodes = cc in
-    let facts : p.facts ≡ q.facts = cc in
-    let names = halves p.nodes q.nodes p.records q.records lengths r in
-    λ i. record { facts = facts i; nodes = names.0 i; records = names.1 i }
+same_part p q e = grind (arith, ap (λ (c : Content). c.facts) e, halves)
 
 -- equally many parts in front of other bytes
 parts_split : (ps qs : List Part) (xs ys : List ℕ) → length ps ≡ length qs → part_codes ps ++ xs ≡ part_codes qs ++ ys
@@ -61,16 +51,10 @@ parts_split ps qs xs ys l e =
 graph_split : (ns rs ms ss : List Part) (xs ys : List ℕ) → graph_code ns rs ++ xs ≡ graph_code ms ss ++ ys
     → (ns ≡ ms) × (rs ≡ ss) × (xs ≡ ys)
 graph_split ns rs ms ss xs ys e =
-    let nodes = number_read (length ns) (length ms) _ _ (simp append_assoc at e) in
-    let records = number_read (length rs) (length ss) _ _ nodes.1 in
-    let long : length (ns ++ rs) ≡ length (ms ++ ss) =
-    omega (arith, length-append ns rs, length-append ms ss, nodes.0, records.0) in
-    let split = parts_split (ns ++ rs) (ms ++ ss) xs ys long records.1 in
-    let both = halves ns ms rs ss nodes.0 split.0 in
-    (both.0, both.1, split.1)
+    grind (arith, append_assoc, number_read, parts_split (ns ++ rs) (ms ++ ss), halves ns ms rs ss, length-append)
 
 graph_is_some : (ns rs : List Part) → [] ≡ graph_code ns rs → ⊥
-graph_is_some ns rs e = let long = simp length-append at (ap length e) in omega (arith, long)
+graph_is_some ns rs e = omega (arith, simp length-append at (ap length e))
 
 left_tells : (ns rs ms ss : List Part) → left_code ns rs ≡ left_code ms ss → (ns ≡ ms) × (rs ≡ ss)
 left_tells [] [] [] [] e = (refl, refl)
@@ -100,12 +84,7 @@ parts_code_tells f g s t l e =
 same_threads : {Place : Type 0} (a b : List (Thread Place)) → places_of a ≡ places_of b → replies_of a ≡ replies_of b
     → notes_of a ≡ notes_of b → a ≡ b
 same_threads [] [] places replies notes = refl
-same_threads (t ∷ a) (u ∷ b) places replies notes =
-    let place : t.place ≡ u.place = cc in
-    let reply : t.replies ≡ u.replies = cc in
-    let note : t.notes ≡ u.notes = cc in
-    let rest = same_threads a b (cc) (cc) (cc) in
-    λ i. record { replies = reply i; place = place i; notes = note i } ∷ rest i
+same_threads (t ∷ a) (u ∷ b) places replies notes = grind (arith, same_threads a b)
 same_threads _ _ places replies notes = cc
 
 -- equal bytes are of equal states, where those of memories and places held are of equal ones
@@ -113,20 +92,10 @@ pub state_codes_tell : {Machine Memory Place Form : Type 0} (code twin_code : Me
     → TellsWholly code twin_code → (s t : State Machine Memory Place Form)
     → state_code code s ≡ state_code twin_code t → s ≡ t
 state_codes_tell code twin_code tells s t e =
-    let here = state_content code s in
-    let there = state_content twin_code t in
-    let steps = number_split s.steps t.steps (content_code (λ l. l) here) (content_code (λ l. l) there) e in
-    let same = content_readable (λ l. l) (λ a b h. h) here there steps.1 in
-    let replies = ap (λ (c : FormContent (List ℕ)). c.replies) same in
+    let pieces = state_pieces code s t.steps (state_content twin_code t) e in
     let many : length (places_of s.threads) ≡ length (places_of t.threads) =
-    simp length-map (simp length-map at (ap length replies)) in
-    let form =
-    tells s.memory t.memory (places_of s.threads) (places_of t.threads) many
-    (ap (λ (c : FormContent (List ℕ)). c.form) same) in
-    let threads =
-    same_threads s.threads t.threads form.1 replies (ap (λ (c : FormContent (List ℕ)). c.notes) same) in
-    let astray = ap (λ (c : FormContent (List ℕ)). c.astray) same in
-    λ i. record { memory = form.0 i; threads = threads i; steps = steps.0 i; astray = astray i }
+    simp length-map (simp length-map at (ap (λ (c : FormContent (List ℕ)). length c.replies) pieces.1)) in
+    grind (arith, same_threads s.threads t.threads)
 
 pub state_code_tells : {Machine Memory Place Form : Type 0} (code : Memory → List (Option Place) → List ℕ)
     → TellsWholly code code → IsInjective (state_code {Machine = Machine} {Form = Form} code)
@@ -140,9 +109,7 @@ module _ {Memory Place : Type 0} (front_code : Front → Memory → List ℕ)
     (own_cut : (memory : Memory) (held : List (Option Place))
     → (front : Front) × (own_code memory held ≡ cut_code front_code behind_code front memory held)) where
   pub cut_tells : (front : Front) → TellsWholly (cut_code front_code behind_code front) own_code
-  cut_tells front memory other held others many e =
-      let w = own_cut other others in tells front w.0 memory other held others many (e ∙ w.1)
+  cut_tells front memory other held others many e = grind (arith, own_cut other others)
 
   pub own_tells : TellsWholly own_code own_code
-  own_tells memory other held others many e =
-      let w = own_cut memory held in cut_tells w.0 memory other held others many (sym w.1 ∙ e)
+  own_tells memory other held others many e = grind (arith, own_cut memory held, cut_tells)

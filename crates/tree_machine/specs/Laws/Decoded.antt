@@ -1,5 +1,5 @@
 -- A state whose own bytes are the named code of another one is alike to that one, and fits the same program.
-use Rattle.std.proofs.Common.{◌≡◌, ℕ, zero, suc, List, ◌∷◌, map, length, sym, ◌∙◌, ap, refl}
+use Rattle.std.proofs.Common.{arith, ◌≡◌, ℕ, zero, suc, List, ◌∷◌, map, length, sym, ◌∙◌, ap, refl}
 use Rattle.std.specs.Prelude.{Option, Some, None, is_some, slice_get}
 use Rattle.std.specs.List.{AllZip}
 use Rattle.std.proofs.lemmas.List.{length-map}
@@ -7,13 +7,12 @@ use Rattle.std.specs.Option.{option_map}
 use Rattle.std.proofs.lemmas.Option.{get_or_from_slice_get, same_Some, slice_get-map, slice_get_within}
 use Rattle.sched_program.specs.Program.{Program}
 use Rattle.tree_machine.specs.Alike.{AreStatesAlike, FormContent, places_of, replies_of}
-use Rattle.tree_machine.specs.FormCode.{content_code, named_code, state_code}
+use Rattle.tree_machine.specs.FormCode.{named_code, state_code}
 use Rattle.tree_machine.specs.InRange.{AreNumbersInRange}
 use Rattle.tree_machine.specs.Pairing.{AreAlike, AreHeldPaired}
 use Rattle.tree_machine.specs.Rules.{Rules, ArePlacesInRange, DecodesForms}
 use Rattle.tree_machine.specs.Step.{Fits}
-use Rattle.tree_machine.specs.Laws.Flat.{number_split}
-use Rattle.tree_machine.specs.Laws.FormCode.{content_readable, state_content}
+use Rattle.tree_machine.specs.Laws.FormCode.{state_content, state_pieces}
 use Rattle.tree_machine.specs.declared.state.Thread.{Thread}
 use Rattle.tree_machine.specs.declared.state.State.{State}
 
@@ -30,17 +29,14 @@ twin_at : {A B C D : Type 0} (f : A → B) (g : A → C) (h : A → D) (P : D �
     → map f xs ≡ map f ys → map g xs ≡ map g ys → AllZip P (map h ys) (map h xs) → (t : ℕ) (x : A)
     → slice_get xs t ≡ Some x
     → (y : A) × (slice_get ys t ≡ Some y) × (f x ≡ f y) × (g x ≡ g y) × P (h y) (h x)
-twin_at f g h P (x ∷ xs) (y ∷ ys) e d z zero v at =
-    let same : x ≡ v = cc in rw (← same) (y, refl, cc, cc, z.0)
+twin_at f g h P (x ∷ xs) (y ∷ ys) e d z zero v at = grind arith
 twin_at f g h P (x ∷ xs) (y ∷ ys) e d z (suc t) v at = twin_at f g h P xs ys (cc) (cc) z.1 t v at
 twin_at f g h P _ _ e d z t v at = cc
 
 -- both options hold a value, or neither does
 pub held_are_some : {A : Type 0} (P : A → A → Type 0) (held twin : Option A) → AreHeldPaired P held twin
     → is_some held ≡ is_some twin
-held_are_some P None None k = refl
-held_are_some P (Some x) (Some y) k = refl
-held_are_some P _ _ k = absurd k
+held_are_some P held twin k = grind arith
 
 module _ {Machine Memory Place Form : Type 0} (rules : Rules Memory Place)
     (form_of : Memory → List (Option Place) → Form) (form_code : Form → List ℕ)
@@ -48,11 +44,7 @@ module _ {Machine Memory Place Form : Type 0} (rules : Rules Memory Place)
     (s c : State Machine Memory Place Form) (range : AreNumbersInRange rules s)
     (same : state_code own_code c ≡ named_code form_code form_of s) where
   pieces : (c.steps ≡ 0) × (state_content own_code c ≡ state_content (λ m held. form_code (form_of m held)) s)
-  pieces =
-      let whole = state_content own_code c in
-      let named = state_content (λ m held. form_code (form_of m held)) s in
-      let steps = number_split c.steps 0 (content_code (λ l. l) whole) (content_code (λ l. l) named) same in
-      (steps.0, content_readable (λ l. l) (λ a b h. h) whole named steps.1)
+  pieces = state_pieces own_code c 0 (state_content (λ m held. form_code (form_of m held)) s) same
 
   same_replies : replies_of c.threads ≡ replies_of s.threads
   same_replies = ap (λ (x : FormContent (List ℕ)). x.replies) pieces.1
@@ -71,12 +63,7 @@ module _ {Machine Memory Place Form : Type 0} (rules : Rules Memory Place)
   decoded_steps = pieces.0
 
   pub decoded_alike : AreStatesAlike rules s c
-  decoded_alike = record {
-    paired = decoded.2;
-    replies = sym same_replies;
-    notes = sym (ap (λ (x : FormContent (List ℕ)). x.notes) pieces.1);
-    astray = sym (ap (λ (x : FormContent (List ℕ)). x.astray) pieces.1);
-  }
+  decoded_alike = grind (arith, decoded, pieces)
 
   pub decoded_fits : (program : Program) → Fits rules program s → Fits rules program c
   decoded_fits program fits = record {
@@ -90,14 +77,12 @@ module _ {Machine Memory Place Form : Type 0} (rules : Rules Memory Place)
         thread_at in
         let twin = w.0 in
         let twin_fits = fits.threads t ops twin ops_at w.1 in
-        let same : thread.replies ≡ twin.replies = w.2 in
-        let alike : thread.notes ≡ twin.notes = w.3 in
         let held : is_some thread.place ≡ is_some twin.place =
         sym (held_are_some (rules.pairs.places decoded.2.0) twin.place thread.place w.4) in
         record {
-          begun = rw alike twin_fits.begun;
-          notes = rw alike twin_fits.notes;
-          replies = cc (same, held, alike, twin_fits.replies);
+          begun = rw w.3 twin_fits.begun;
+          notes = rw w.3 twin_fits.notes;
+          replies = cc (w.2, held, w.3, twin_fits.replies);
           place =
               let is =
               slice_get-map (λ (x : Thread Place). x.place) c.threads t ∙ ap (option_map (λ x. x.place)) thread_at in

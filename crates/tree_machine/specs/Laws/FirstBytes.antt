@@ -28,6 +28,5 @@ first_six _ h = absurd (omega arith)
 pub first_seven : (bytes : List ℕ) → 7 ≤ length bytes
     → bytes ≡ get_or bytes 0 0 ∷ get_or bytes 1 0 ∷ get_or bytes 2 0 ∷ get_or bytes 3 0 ∷ get_or bytes 4 0
     ∷ get_or bytes 5 0 ∷ get_or bytes 6 0 ∷ take (length bytes - 7) (drop 7 bytes)
-first_seven (a ∷ b ∷ c ∷ d ∷ e ∷ f ∷ g ∷ rest) h =
-    ap (λ l. a ∷ b ∷ c ∷ d ∷ e ∷ f ∷ g ∷ l) (sym (take_all _ rest (omega arith)))
+first_seven (a ∷ b ∷ c ∷ d ∷ e ∷ f ∷ g ∷ rest) h = grind (arith, take_all)
 first_seven _ h = absurd (omega arith)

@@ -1,9 +1,8 @@
 -- The content of the form of a state can be read off its bytes, so that two forms are equal where their bytes are.
-use Rattle.std.specs.Prelude.{◌≡◌, ℕ, ◌/◌, ◌%◌, Bool, true, false, if◌then◌else◌, List, [], ◌∷◌, ◌++◌, length, Option}
-use Rattle.std.specs.Prelude.{Some, None, nat_eq}
+use Rattle.std.specs.Prelude.{◌≡◌, ℕ, Bool, List, [], ◌∷◌, ◌++◌, length, Option, nat_eq}
 use Rattle.std.specs.Cmp.{IsEquivalence}
 use Rattle.std.specs.Cmp.Lexicographic.{pointwise}
-use Rattle.std.proofs.Common.{◌+◌, refl, sym, ◌∙◌, ap, subst, arith, append_assoc, get_or}
+use Rattle.std.proofs.Common.{◌+◌, refl, arith, append_assoc}
 use Rattle.std.proofs.lemmas.Cmp.{lists_equiv}
 use Rattle.sched_program.specs.Exact.{IsExact}
 use Rattle.sched_program.specs.Laws.Exact.{nat_exact, list_exact}
@@ -11,11 +10,13 @@ use Rattle.tree_machine.specs.Laws.CellOrder.{nat_equivalence}
 use Rattle.tree_machine.specs.Alike.{FormContent, notes_of, places_of, replies_of}
 use Rattle.tree_machine.specs.Laws.StateExact.{same_answer}
 use Rattle.tree_machine.specs.FormCode.{list_code, replies_code, note_code, astray_code, content_code, IsInjective}
+use Rattle.tree_machine.specs.FormCode.{state_code}
+use Rattle.tree_machine.specs.Flat.{number_code}
 use Rattle.tree_machine.specs.Laws.Flat.{number_split, IsReadable, each_readable}
 use Rattle.tree_machine.specs.Laws.Packed.{digits_of_number}
 use Rattle.tree_machine.specs.Laws.ShortNotes.{counts_of_number, number_below}
 use Rattle.tree_machine.specs.declared.state.State.{State}
-use Rattle.tree_machine.specs.Packed.{digits_of, is_short, note_number, replies_number}
+use Rattle.tree_machine.specs.Packed.{replies_number}
 
 -- what the bytes of a state are of, behind its steps
 abbrev pub state_content : {Machine Memory Place Form : Type 0} → (Memory → List (Option Place) → List ℕ)
@@ -30,16 +31,12 @@ state_content code s = record {
 list_readable : {A : Type 0} (code : A → List ℕ) → IsReadable code → IsReadable (list_code code)
 list_readable code readable cs ds xs ys e = each_readable code readable cs ds xs ys (cc) (cc)
 
-replies_injective : (a b : List Bool) → replies_number a ≡ replies_number b → a ≡ b
-replies_injective a b e =
-    let most = length a + length b in
-    sym (digits_of_number most a (omega arith)) ∙ ap (digits_of most) e ∙ digits_of_number most b (omega arith)
-
 replies_readable : IsReadable replies_code
 unfolding replies_code
 replies_readable a b xs ys e =
+    let most = length a + length b in
     let parts = number_split (replies_number a) (replies_number b) xs ys e in
-    (replies_injective a b parts.0, parts.1)
+    grind (arith, digits_of_number most a, digits_of_number most b)
 
 -- equal lists that are cut at one place have equal pieces
 pub halves : {A : Type 0} (xs us ys vs : List A) → length xs ≡ length us → xs ++ ys ≡ us ++ vs → (xs ≡ us) × (ys ≡ vs)
@@ -50,49 +47,28 @@ halves _ _ ys vs l e = absurd (omega arith)
 -- a short note and one that is not begin with different bytes
 note_readable : IsReadable note_code
 unfolding note_code
-note_readable cs ds xs ys e = go (is_short cs) (is_short ds) refl refl e
-  where
-    code : Bool → List ℕ → List ℕ
-    code short counts =
-        if short then note_number counts / 256 ∷ note_number counts % 256 ∷ [] else 255 ∷ length counts ∷ counts
-
-    go : (short other : Bool) → is_short cs ≡ short → is_short ds ≡ other
-        → code short cs ++ xs ≡ code other ds ++ ys → (cs ≡ ds) × (xs ≡ ys)
-    go true true c d e =
-        let high : note_number cs / 256 ≡ note_number ds / 256 = cc in
-        let low : note_number cs % 256 ≡ note_number ds % 256 = cc in
-        let number : note_number cs ≡ note_number ds = omega arith in
-        (cc (counts_of_number cs c, counts_of_number ds d, number), cc)
-    go true false c d e = let high : note_number cs / 256 ≡ 255 = cc in absurd (omega (arith, number_below cs c))
-    go false true c d e = let high : 255 ≡ note_number ds / 256 = cc in absurd (omega (arith, number_below ds d))
-    go false false c d e = halves cs ds xs ys (cc) (cc)
+note_readable cs ds xs ys e =
+    grind (arith, counts_of_number cs, counts_of_number ds, number_below cs, number_below ds, halves cs ds xs ys)
 
 astray_readable : IsReadable astray_code
-astray_readable None None xs ys e = (refl, cc)
-astray_readable (Some t) (Some u) xs ys e = (cc, cc)
-astray_readable _ _ xs ys e = absurd (omega (arith, ap (λ l. get_or l 0 0) e))
+astray_readable a b xs ys e = grind arith
 
 module _ {Form : Type 0} (code : Form → List ℕ) (readable : IsInjective code) where
   pub content_readable : IsInjective (content_code code)
   content_readable a b e =
-      let rest_of = λ (c : FormContent Form). astray_code c.astray ++ code c.form in
-      let behind = λ (c : FormContent Form). list_code (list_code note_code) c.notes ++ rest_of c in
-      let replies =
-      list_readable replies_code replies_readable a.replies b.replies (behind a) (behind b)
-      (simp append_assoc at e) in
-      let notes =
-      list_readable (list_code note_code) (list_readable note_code note_readable) a.notes b.notes (rest_of a)
-      (rest_of b) replies.1 in
-      let astray = astray_readable a.astray b.astray (code a.form) (code b.form) notes.1 in
-      let form = readable a.form b.form astray.1 in
-      λ i. record { form = form i; replies = replies.0 i; notes = notes.0 i; astray = astray.0 i }
+      grind (arith, list_readable, replies_readable, append_assoc, note_readable, astray_readable)
 
   -- comparing bytes returns what comparing the forms returns
   pub content_same : (E : FormContent Form → FormContent Form → Bool) → IsExact E → IsEquivalence E
       → (a b : FormContent Form) → pointwise nat_eq (content_code code a) (content_code code b) ≡ E a b
   content_same E exact equivalence a b =
-      same_answer _ _
-      (λ h. subst (λ (c : FormContent Form). E a c ≡ true) (content_readable a b (list_exact nat_exact _ _ h))
-      (equivalence.refl a))
-      (λ h. subst (λ (c : FormContent Form). pointwise nat_eq (content_code code a) (content_code code c) ≡ true)
-      (exact a b h) ((lists_equiv nat_equivalence).refl (content_code code a)))
+      grind (arith, same_answer, content_readable, list_exact, nat_exact, lists_equiv, nat_equivalence)
+
+-- equal bytes are of equal steps and contents
+pub state_pieces : {Machine Memory Place Form : Type 0} (code : Memory → List (Option Place) → List ℕ)
+    (s : State Machine Memory Place Form) (steps : ℕ) (content : FormContent (List ℕ))
+    → state_code code s ≡ number_code steps ++ content_code (λ l. l) content
+    → (s.steps ≡ steps) × (state_content code s ≡ content)
+state_pieces code s steps content e =
+    let same = number_split s.steps steps (content_code (λ l. l) (state_content code s)) _ e in
+    (same.0, content_readable (λ l. l) (λ a b h. h) (state_content code s) content same.1)

@@ -46,14 +46,13 @@ places_in_row ys d a _ _ h z = absurd z
 own_names : (f : ℕ) (xs : List ℕ) → IsDistinct nat_eq xs → Extends (numbers_from 0 f) xs → (refs : List (Option ℕ))
     → HasAll (numbers_from 0 f) refs → map (option_and_then (place_in xs)) refs ≡ refs
 own_names f xs d e [] h = refl
-own_names f xs d e (None ∷ refs) h = ap (λ l. None ∷ l) (own_names f xs d e refs h)
+own_names f xs d e (None ∷ refs) h = cc (own_names f xs d e refs h)
 own_names f xs d e (Some x ∷ refs) h =
-    let below =
-    all_has (λ x. x < f) _ (recursion_from_All _ _ (numbers_all (λ x. x < f) 0 f (λ x l k. omega arith))) x h.0 in
+    let below = all_has (λ x. x < f) _ (recursion_from_All _ _ (numbers_all (λ x. x < f) 0 f (omega arith))) x h.0 in
     cc (place_at xs d x x (get_extends e x x (own_number x below)), own_names f xs d e refs h.1)
 
 taken_first : (f : ℕ) (xs : List ℕ) → Extends (numbers_from 0 f) xs → take f xs ≡ numbers_from 0 f
-taken_first f xs e = ap (take f) e.is ∙ take_at (numbers_from 0 f) e.rest f (length-numbers_from 0 f)
+taken_first f xs e = rw (e.is, take_at (numbers_from 0 f) e.rest f (length-numbers_from 0 f))
 
 -- a map that leaves parts as they are, by their numbers from a on
 parts_in_row : (g : ℕ → Part) (a n : ℕ) (parts : List Part) → n ≤ length parts
@@ -68,10 +67,7 @@ parts_in_row g a (suc n) (p ∷ ps) l h =
 -- nodes and records that are met are no more than there are
 met_within : (fixed : ℕ) (s : Parts) {nodes records : List ℕ} → AreMet fixed s nodes records
     → (length nodes ≤ length s.nodes) × (length records ≤ length s.records)
-met_within fixed s {nodes} {records} met = (
-  length-le_from_distinct_below nodes _ met.nodes_distinct (all_has _ nodes met.nodes_below),
-  length-le_from_distinct_below records _ met.records_distinct (all_has _ records met.records_below),
-)
+met_within fixed s {nodes} {records} met = grind (arith, length-le_from_distinct_below, all_has)
 
 -- ---- the front of canonical parts
 
@@ -105,10 +101,7 @@ module _ (fixed : ℕ) (front : Front) (t : Parts) (h : ArePartsInRange fixed t)
 
   -- the front counts what is met
   pub front_is : canonical_front fixed t ≡ front
-  front_is =
-      let nodes = ap length m.nodes ∙ length-numbers_from 0 front.nodes in
-      let records = ap length m.records ∙ length-numbers_from 0 front.records in
-      λ i. record { nodes = nodes i; records = records i }
+  front_is = grind (arith, m.nodes, m.records, length-numbers_from 0 front.nodes, length-numbers_from 0 front.records)
 
   -- there are at least as many parts as the front counts
   front_within : (front.nodes ≤ length t.nodes) × (front.records ≤ length t.records)
@@ -121,7 +114,7 @@ module _ (fixed : ℕ) (front : Front) (t : Parts) (h : ArePartsInRange fixed t)
       let met = walk_met fixed t h in
       let nodes = own_names front.nodes (met_nodes fixed t) met.nodes_distinct nodes_first p.nodes b.0 in
       let records = own_names front.records (met_records fixed t) met.records_distinct records_first p.records b.1 in
-      λ i. record { facts = p.facts; nodes = nodes i; records = records i }
+      grind arith
 
   -- and so are the nodes and the records that come first
   own_nodes : map (λ x. renamed_part (met_nodes fixed t) (met_records fixed t) (part_at t.nodes x))
@@ -142,7 +135,7 @@ module _ (fixed : ℕ) (front : Front) (t : Parts) (h : ArePartsInRange fixed t)
       take-map _ front.nodes _ ∙ ap (map _) (taken_first front.nodes _ nodes_first) ∙ own_nodes in
       let records : take front.records (canonical_parts fixed t).records ≡ take front.records t.records =
       take-map _ front.records _ ∙ ap (map _) (taken_first front.records _ records_first) ∙ own_records in
-      ap (λ f. front_code f (canonical_parts fixed t)) front_is ∙ (λ i. graph_code (nodes i) (records i))
+      cc front_is
 
   -- where all come in front, the parts are canonical
   module _ (all_nodes : front.nodes ≡ length t.nodes) (all_records : front.records ≡ length t.records) where
@@ -182,11 +175,7 @@ pub own_completes : (front : Front) (s other : Parts) (twins : List Part) → le
     → front_code front s ++ part_codes s.held ≡ parts_code (all_front s) s
 own_completes front s other twins many e =
     let stated = parts_code_tells front (all_front other) _ other (sym many) e in
-    let all_nodes : take front.nodes s.nodes ≡ other.nodes = cc (stated.1, take-length other.nodes) in
-    let all_records : take front.records s.records ≡ other.records = cc (stated.2, take-length other.records) in
-    let nodes = all_nodes ∙ sym (ap (λ (p : Parts). p.nodes) stated.0) in
-    let records = all_records ∙ sym (ap (λ (p : Parts). p.records) stated.0) in
-    (λ i. graph_code (nodes i) (records i) ++ part_codes s.held) ∙ sym (own_parts_code s)
+    grind (arith, take-length other.nodes, take-length other.records, own_parts_code s)
 
 -- canonical parts that were read are met in the order of their numbers
 pub read_in_order : (fixed : ℕ) (front : Front) (s other : Parts) (twins : List Part) → ArePartsInRange fixed other
@@ -202,10 +191,7 @@ read_in_order fixed front s other twins range many e =
     let within = front_within fixed cf canonical (canonical_in_range fixed other range) met in
     let nodes = ap length stated.1 ∙ length-take-le cf.nodes canonical.nodes within.0 in
     let records = ap length stated.2 ∙ length-take-le cf.records canonical.records within.1 in
-    record {
-      nodes = (λ i. front_nodes fixed (stated.0 i)) ∙ met.nodes ∙ ap (numbers_from 0) (sym nodes);
-      records = (λ i. front_records fixed (stated.0 i)) ∙ met.records ∙ ap (numbers_from 0) (sym records);
-    }
+    grind arith
 
 -- behind the front that stays, the rest of the canonical parts completes their code
 pub canonical_completes : (fixed : ℕ) (front : Front) (s : Parts) → ArePartsInRange fixed s
@@ -215,8 +201,7 @@ canonical_completes fixed front s range met =
     let own =
     front_own fixed (cut_front front s) s range met
     ∙ (λ i. graph_code (take_cut front.nodes s.nodes i) (take_cut front.records s.records i)) in
-    let is = front_is fixed (cut_front front s) s range met in
-    λ i. sym own i ++ behind_code (sym is i) (canonical_parts fixed s)
+    cc (own, front_is fixed (cut_front front s) s range met)
 
 -- where all come in front, only what the threads hold comes behind
 pub behind_all : (fixed : ℕ) (front : Front) (s : Parts) → ArePartsInRange fixed s
@@ -227,4 +212,4 @@ behind_all fixed front s range met all_nodes all_records =
     let own = canonical_own fixed (cut_front front s) s range met all_nodes all_records in
     let left : part_codes s.held ≡ behind_code (cut_front front s) s =
     simp (all_nodes, all_records, drop-length, append-nil) in
-    left ∙ ap (behind_code (cut_front front s)) (sym own)
+    cc

@@ -1,6 +1,5 @@
 -- Numbers in a row.
-use Rattle.std.proofs.Common.{◌≡◌, ℕ, zero, suc, ◌+◌, [], ◌∷◌, ◌++◌, length, refl, sym, ◌∙◌, ap, arith}
-use Rattle.std.proofs.Common.{add-zero, add-one}
+use Rattle.std.proofs.Common.{◌≡◌, ℕ, zero, suc, ◌+◌, [], ◌∷◌, ◌++◌, length, refl, ap, arith, add-one}
 use Rattle.tree_machine.specs.Graphs.{numbers_from}
 
 pub length-numbers_from : (a n : ℕ) → length (numbers_from a n) ≡ n
@@ -9,9 +8,5 @@ length-numbers_from a (suc n) = ap suc (length-numbers_from (suc a) n)
 
 -- one more number
 pub numbers_more : (a n : ℕ) → numbers_from a (n + 1) ≡ numbers_from a n ++ (a + n) ∷ []
-numbers_more a n = ap (numbers_from a) (add-one n) ∙ go a n
-  where
-    go : (a n : ℕ) → numbers_from a (suc n) ≡ numbers_from a n ++ (a + n) ∷ []
-    go a zero = ap (λ x. x ∷ []) (sym (add-zero a))
-    go a (suc n) = let e : suc a + n ≡ a + suc n = omega arith in
-        ap (λ l. a ∷ l) (go (suc a) n ∙ ap (λ x. numbers_from (suc a) n ++ x ∷ []) e)
+numbers_more a zero = grind (arith, add-one)
+numbers_more a (suc n) = grind (arith, add-one, numbers_more (suc a) n)

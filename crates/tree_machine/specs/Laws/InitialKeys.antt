@@ -42,26 +42,11 @@ module _ (before after : ℕ → Option Shape) (key : ℕ) (end : End) (put : Is
         → after x ≡ Some shape
     kept x shape e other = put.kept x shape (λ same. other (sym e ∙ ap before same ∙ is)) e
 
-    frame_at : (levels : ℕ) → ((low high x : ℕ) → (low < kp → kp < high → ⊥) → IsOrderedWithin before levels low high x
-        → IsOrderedWithin after (suc levels) low high x)
-        → (low high x : ℕ) → (low < kp → kp < high → ⊥) → (shape : Option Shape) → before x ≡ shape
-        → IsNodeOrdered (IsOrderedWithin before levels) low high shape
-        → IsOrderedWithin after (suc (suc levels)) low high x
-    frame_at levels f low high x out None e o = absurd o
-    frame_at levels f low high x out (Some (Leaf k)) e o =
-        of_node after (suc levels) low high x _ (kept x (Leaf k) e (λ same. cc)) o
-    frame_at levels f low high x out (Some (Internal m l r)) e o =
-        let a = apart before levels low (min m high) l o.0 in
-        let b = apart before levels (max m low) high r o.1 in
-        of_node after (suc levels) low high x _
-        (kept x (Internal m l r) e (λ same. let k : kp ≡ m = cc in out (omega arith) (omega arith)))
-        (f low (min m high) l (λ p q. out p (omega arith)) o.0, f (max m low) high r (λ p q. out (omega arith) q) o.1)
-
     -- what lies apart from the parent stays in order, within one level more
     frame : (levels low high x : ℕ) → (low < kp → kp < high → ⊥) → IsOrderedWithin before levels low high x
         → IsOrderedWithin after (suc levels) low high x
     frame zero low high x out o = absurd o
-    frame (suc levels) low high x out o = frame_at levels (frame levels) low high x out (before x) refl o
+    frame (suc levels) low high x out o = grind (arith, frame levels, apart before levels, kept x)
 
   module _ (fresh : (x j : ℕ) → before x ≡ Some (Leaf j) → key ≢ j) where
     -- an internal node of so many levels stays in order where the key is inserted below it
@@ -117,17 +102,14 @@ module _ (before after : ℕ → Option Shape) (key : ℕ) (end : End) (put : Is
     descend (suc n) low high parent x m l r e o from under ends =
         let a = apart before (suc n) low (min m high) l o.0 in
         let b = apart before (suc n) (max m low) high r o.1 in
-        let inside : (low < m) × (m < high) = (omega arith, omega arith) in
         let on = sym (end_below before key (suc n) parent x m l r e) ∙ ends in
         elim (leb_tells (suc key) m) [
           | inl t ↦ grown_by n low high x m low (min m high) l (λ c. c) (λ c. r) (descend n) e
-              (omega arith, omega arith, omega arith, omega arith, omega arith, omega arith) (λ u v. omega arith)
-              from (omega arith) (λ here. put.left m l r here t.1)
+              (omega arith) (λ u v. omega arith) from (omega arith) (λ here. put.left m l r here t.1)
               (λ kp lp rp c is u v oc. (oc, frame kp lp rp is (suc n) (max m low) high r (λ p q. omega arith) o.1))
               (before l) refl o.0 (rw t.0 at on)
           | inr t ↦ grown_by n low high x m (max m low) high r (λ c. l) (λ c. c) (descend n) e
-              (omega arith, omega arith, omega arith, omega arith, omega arith, omega arith) (λ u v. omega arith)
-              (omega arith) under (λ here. put.right m l r here (omega arith))
+              (omega arith) (λ u v. omega arith) (omega arith) under (λ here. put.right m l r here (omega arith))
               (λ kp lp rp c is u v oc. (frame kp lp rp is (suc n) low (min m high) l (λ p q. omega arith) o.0, oc))
               (before r) refl o.1 (rw t.0 at on)
         ]
@@ -136,8 +118,7 @@ module _ (before after : ℕ → Option Shape) (key : ℕ) (end : End) (put : Is
     root_grown : (levels m l r : ℕ) → before 0 ≡ Some (Internal m l r) → IsOrderedWithin before levels 0 103 0
         → key < 103 → end_of before key levels 0 0 ≡ end → IsGrown before after end (suc levels) 0 103 0
     root_grown zero m l r e o under ends = absurd o
-    root_grown (suc n) m l r e o under ends =
-        descend n 0 103 0 0 m l r e (to_node before n 0 103 0 _ e o) (omega arith) under ends
+    root_grown (suc n) m l r e o under ends = grind (arith, descend, to_node)
 
 -- memories into which keys are inserted, one after the other
 module _ {Memory : Type 0} (shapes : Memory → ℕ → Option Shape) (count : Memory → ℕ) (put_in : Memory → ℕ → Memory)

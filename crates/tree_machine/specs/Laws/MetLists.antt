@@ -1,37 +1,31 @@
 -- Lists of the nodes and of the records that are met: distinct, in range, and paired where the orders are.
-use Rattle.std.proofs.Common.{◌≡◌, ◌≢◌, ℕ, zero, suc, ◌+◌, ◌-◌, ◌<◌, ◌≤◌, ◌⊎◌, inl, inr, Bool, true, false, ◌||◌, ◌&&◌}
-use Rattle.std.proofs.Common.{List, [], ◌∷◌, ◌++◌, map, length, refl, sym, ◌∙◌, ap, ap₂, arith, append-nil, zero-add}
-use Rattle.std.specs.Prelude.{slice_get, Option, Some, None, nat_eq, nat_lt, nat_le}
-use Rattle.std.specs.List.{AllZip, AllByRecursion, filter, list_any, zip, IsDistinct}
+use Rattle.std.proofs.Common.{◌≡◌, ◌≢◌, ℕ, zero, suc, ◌+◌, ◌<◌, ◌≤◌, ◌⊎◌, Bool, true, false, ◌&&◌}
+use Rattle.std.proofs.Common.{List, [], ◌∷◌, ◌++◌, map, length, refl, arith, zero-add}
+use Rattle.std.specs.Prelude.{slice_get, Option, Some, nat_eq, nat_lt, nat_le}
+use Rattle.std.specs.List.{AllZip, AllByRecursion, filter, zip, IsDistinct}
 use Rattle.std.specs.Option.{option_and_then}
-use Rattle.std.proofs.lemmas.Bool.{eqb-true, ltb-true}
-use Rattle.std.proofs.lemmas.Bool.Decides.{Decides-eqb, nat_tests}
-use Rattle.std.proofs.lemmas.List.Elements.{filter-append}
+use Rattle.std.proofs.lemmas.Bool.Decides.{Decides-eqb}
 use Rattle.std.proofs.lemmas.List.Kept.{AllPairs-filter}
-use Rattle.std.proofs.lemmas.List.{map-append}
 use Rattle.std.proofs.lemmas.Map.Made.{AllPairs-from_IsDistinct, IsDistinct-from_AllPairs}
-use Rattle.std.proofs.lemmas.Map.Views.{any-filter_same}
 use Rattle.std.proofs.lemmas.Option.{slice_get_within}
-use Rattle.sched_program.specs.Laws.Exact.{both}
 use Rattle.tree_machine.specs.Cells.{IsPairedOrNone, place_in}
 use Rattle.tree_machine.specs.Pairing.{IsOneToOne, IsAmong}
 use Rattle.tree_machine.specs.Graphs.{numbers_from}
 use Rattle.tree_machine.specs.Canonical.{nodes_met, records_met, as_cells}
 use Rattle.tree_machine.specs.Laws.CellLists.{mapped_distinct, distinct_in_row}
-use Rattle.tree_machine.specs.Laws.CellOrder.{Has, HasAll, all_from_has}
-use Rattle.tree_machine.specs.Laws.CellSteps.{same_tests}
+use Rattle.tree_machine.specs.Laws.CellOrder.{Has, HasAll}
 use Rattle.tree_machine.specs.Laws.CellPlaces.{among_at, at_among, place_from_has, get_place, zip_one}
 
 -- ---- each number with its place
 
 pub number_at : (a n i : ℕ) → i < n → slice_get (numbers_from a n) i ≡ Some (a + i)
 number_at a zero i l = absurd (omega arith)
-number_at a (suc n) zero l = ap Some (omega arith)
-number_at a (suc n) (suc i) l = number_at (suc a) n i (omega arith) ∙ ap Some (omega arith)
+number_at a (suc n) zero l = grind arith
+number_at a (suc n) (suc i) l = grind (arith, number_at (suc a) n i)
 
 -- a number below n is at its own place among them
 pub own_number : {n : ℕ} (x : ℕ) → x < n → slice_get (numbers_from 0 n) x ≡ Some x
-own_number {n} x l = number_at 0 n x l ∙ ap Some (zero-add x)
+own_number {n} x l = rw (number_at, zero-add)
 
 -- the numbers of a list, each with its place
 abbrev pub places : List ℕ → List (ℕ × ℕ)
@@ -41,10 +35,7 @@ pub among_places : (xs : List ℕ) (x k : ℕ) → slice_get xs k ≡ Some x →
 among_places xs x k h = among_at xs _ k x k h (own_number k (slice_get_within xs k x h))
 
 pub places_among : (xs : List ℕ) (x k : ℕ) → IsAmong (places xs) x k → slice_get xs k ≡ Some x
-places_among xs x k h =
-    let p = at_among xs (numbers_from 0 (length xs)) x k h in
-    let same : p.0 ≡ k = cc (own_number p.0 (slice_get_within xs p.0 x p.1), p.2) in
-    rw (← same) p.1
+places_among xs x k h = grind (arith, at_among, own_number, slice_get_within)
 
 pub places_one : (xs : List ℕ) → IsDistinct nat_eq xs → IsOneToOne (IsAmong (places xs))
 places_one xs d = zip_one xs _ d (distinct_in_row 0 (length xs)).distinct
@@ -53,12 +44,7 @@ places_one xs d = zip_one xs _ d (distinct_in_row 0 (length xs)).distinct
 pub refs_placed : (xs : List ℕ) (refs : List (Option ℕ)) → HasAll xs refs
     → AllZip (IsPairedOrNone (IsAmong (places xs))) refs (map (option_and_then (place_in xs)) refs)
 refs_placed xs [] h = tt
-refs_placed xs (None ∷ refs) h = (tt, refs_placed xs refs h)
-refs_placed xs (Some x ∷ refs) h =
-    let k = place_from_has xs x h.0 in (
-      rw k.1 (among_places xs x k.0 (get_place xs x k.0 k.1)),
-      refs_placed xs refs h.1,
-    )
+refs_placed xs (r ∷ refs) h = grind (arith, place_from_has, get_place, among_places xs, refs_placed xs refs)
 
 -- ---- what a filter keeps
 
@@ -66,16 +52,6 @@ pub filter_distinct : (p : ℕ → Bool) (xs : List ℕ) → IsDistinct nat_eq x
 filter_distinct p xs d =
     IsDistinct-from_AllPairs Decides-eqb _
     (AllPairs-filter (λ x y. x ≢ y) p xs (AllPairs-from_IsDistinct Decides-eqb xs d))
-
-filter_any : (p : ℕ → Bool) (xs : List ℕ) (x : ℕ)
-    → list_any (nat_eq x) (filter p xs) ≡ (p x && list_any (nat_eq x) xs)
-filter_any p xs x = any-filter_same (nat_eq x) p (p x) (λ y e. ap p (sym (eqb-true x y e))) xs
-
-pub filter_has : (p : ℕ → Bool) (xs : List ℕ) (x : ℕ) → Has (filter p xs) x → Has xs x × (p x ≡ true)
-filter_has p xs x h = let r = both (p x) (list_any (nat_eq x) xs) (sym (filter_any p xs x) ∙ h) in (r.1, r.0)
-
-pub has_filter : (p : ℕ → Bool) (xs : List ℕ) (x : ℕ) → Has xs x → p x ≡ true → Has (filter p xs) x
-has_filter p xs x h t = filter_any p xs x ∙ ap₂ ◌&&◌ t h
 
 pub filter_none : (p : ℕ → Bool) (xs : List ℕ) → AllByRecursion (λ x. p x ≡ false) xs → filter p xs ≡ []
 filter_none p [] h = refl
@@ -88,9 +64,7 @@ PassAlike p q R x y = ((p x ≡ true) × (q y ≡ true) × R x y) ⊎ ((p x ≡ 
 pub filter_zip : (Q R : ℕ → ℕ → Type 0) (p q : ℕ → Bool) → ((x y : ℕ) → Q x y → PassAlike p q R x y)
     → (xs ys : List ℕ) → AllZip Q xs ys → AllZip R (filter p xs) (filter q ys)
 filter_zip Q R p q h [] [] z = tt
-filter_zip Q R p q h (x ∷ xs) (y ∷ ys) z =
-    let rest = filter_zip Q R p q h xs ys z.1 in
-    elim (h x y z.0) [ inl k ↦ rw (k.0, k.1) (k.2, rest) | inr k ↦ rw (k.0, k.1) rest ]
+filter_zip Q R p q h (x ∷ xs) (y ∷ ys) z = grind (arith, h x y z.0, filter_zip Q R p q h xs ys z.1)
 filter_zip Q R p q h _ _ z = absurd z
 
 pub map_zip : {A B C D : Type 0} (P : C → D → Type 0) (f : A → C) (g : B → D) (xs : List A) (ys : List B)
@@ -108,98 +82,66 @@ abbrev pub is_record : ℕ → ℕ → ℕ → Bool
 is_record n r x = nat_le n x && nat_lt x (n + r)
 
 pub test_node : (n x : ℕ) → x < n → nat_lt x n ≡ true
-test_node n x l = grind (arith, nat_tests)
+test_node n x l = grind arith
 
 pub test_other : (n x : ℕ) → n ≤ x → nat_lt x n ≡ false
-test_other n x l = grind (arith, nat_tests)
+test_other n x l = grind arith
 
 pub test_record : (n r x : ℕ) → n ≤ x → x < n + r → (nat_le n x && nat_lt x (n + r)) ≡ true
-test_record n r x l k = grind (arith, nat_tests)
-
-pub record_test : (n r x : ℕ) → (nat_le n x && nat_lt x (n + r)) ≡ true → (n ≤ x) × (x < n + r)
-record_test n r x e = grind (arith, nat_tests)
+test_record n r x l k = grind arith
 
 pub test_before : (n r x : ℕ) → x < n → (nat_le n x && nat_lt x (n + r)) ≡ false
-test_before n r x l = grind (arith, nat_tests)
+test_before n r x l = grind arith
 
 pub test_behind : (n r x : ℕ) → n + r ≤ x → (nat_le n x && nat_lt x (n + r)) ≡ false
-test_behind n r x l = grind (arith, nat_tests)
-
-lowered_any : (n : ℕ) (xs : List ℕ) (y : ℕ) → AllByRecursion (λ x. n ≤ x) xs
-    → list_any (nat_eq y) (map (λ x. x - n) xs) ≡ list_any (nat_eq (n + y)) xs
-lowered_any n [] y a = refl
-lowered_any n (x ∷ xs) y a = λ i. same_tests y (n + y) (x - n) x
-    ((λ e. omega (arith, e, a.0)), (λ e. omega (arith, e))) i || lowered_any n xs y a.1 i
+test_behind n r x l = grind arith
 
 -- ---- the nodes and the records that are met
 
-module _ (n : ℕ) (order : List ℕ) where
-  pub node_has : (x : ℕ) → Has (nodes_met n order) x → Has order x × (x < n)
-  node_has x h = let r = filter_has (is_node n) order x h in (r.0, ltb-true x n r.1)
+module _ (n : ℕ) where
+  pub node_has : (order : List ℕ) (x : ℕ) → Has (nodes_met n order) x → Has order x × (x < n)
+  node_has [] x h = cc
+  node_has (y ∷ order) x h = grind (arith, node_has order x)
 
-  pub has_node : (x : ℕ) → Has order x → x < n → Has (nodes_met n order) x
-  has_node x h l = has_filter (is_node n) order x h (test_node n x l)
+  pub has_node : (order : List ℕ) (x : ℕ) → Has order x → x < n → Has (nodes_met n order) x
+  has_node [] x h l = h
+  has_node (y ∷ order) x h l = grind (arith, has_node order x)
 
-  pub nodes_below : AllByRecursion (λ x. x < n) (nodes_met n order)
-  nodes_below = all_from_has _ _ (λ x h. (node_has x h).1)
+  pub nodes_below : (order : List ℕ) → AllByRecursion (λ x. x < n) (nodes_met n order)
+  nodes_below [] = tt
+  nodes_below (x ∷ order) = grind (arith, nodes_below order)
 
-  pub nodes_distinct : IsDistinct nat_eq order → IsDistinct nat_eq (nodes_met n order)
-  nodes_distinct d = filter_distinct (is_node n) order d
+  pub record_has : (order : List ℕ) (r y : ℕ) → Has (records_met n r order) y → Has order (n + y) × (y < r)
+  record_has [] r y h = cc
+  record_has (x ∷ order) r y h = grind (arith, record_has order r y)
 
-  module _ (r : ℕ) where
-    kept_behind : AllByRecursion (λ x. n ≤ x) (filter (is_record n r) order)
-    kept_behind = all_from_has _ _ (λ x h. (record_test n r x (filter_has _ order x h).1).0)
+  pub has_record : (order : List ℕ) (r y : ℕ) → Has order (n + y) → y < r → Has (records_met n r order) y
+  has_record [] r y h l = h
+  has_record (x ∷ order) r y h l = grind (arith, has_record order r y)
 
-    pub record_has : (y : ℕ) → Has (records_met n r order) y → Has order (n + y) × (y < r)
-    record_has y h =
-        let k = filter_has (is_record n r) order (n + y) (sym (lowered_any n _ y kept_behind) ∙ h) in
-        let l = record_test n r (n + y) k.1 in
-        (k.0, omega arith)
+  pub records_below : (order : List ℕ) (r : ℕ) → AllByRecursion (λ y. y < r) (records_met n r order)
+  records_below [] r = tt
+  records_below (x ∷ order) r = grind (arith, records_below order r)
 
-    pub has_record : (y : ℕ) → Has order (n + y) → y < r → Has (records_met n r order) y
-    has_record y h l =
-        lowered_any n _ y kept_behind
-        ∙ has_filter (is_record n r) order (n + y) h
-        (test_record n r (n + y) (omega arith) (omega arith))
+  kept_behind : (order : List ℕ) (r : ℕ) → AllByRecursion (λ x. n ≤ x) (filter (is_record n r) order)
+  kept_behind [] r = tt
+  kept_behind (x ∷ order) r = grind (arith, kept_behind order r)
 
-    pub records_below : AllByRecursion (λ y. y < r) (records_met n r order)
-    records_below = all_from_has _ _ (λ y h. (record_has y h).1)
+  pub records_distinct : (order : List ℕ) (r : ℕ) → IsDistinct nat_eq order → IsDistinct nat_eq (records_met n r order)
+  records_distinct order r d = grind (arith, mapped_distinct, kept_behind, filter_distinct)
 
-    pub records_distinct : IsDistinct nat_eq order → IsDistinct nat_eq (records_met n r order)
-    records_distinct d =
-        mapped_distinct (λ x. n ≤ x) (λ x. x - n) (λ x y p q e. omega (arith, e, p, q)) _ kept_behind
-        (filter_distinct _ order d)
-
--- ---- nodes and records as cells
+-- ---- nodes and records in front of other cells
 
 module _ (n r : ℕ) where
-  nodes_of_nodes : (xs : List ℕ) → AllByRecursion (λ x. x < n) xs → nodes_met n xs ≡ xs
-  nodes_of_nodes [] h = refl
-  nodes_of_nodes (x ∷ xs) h = rw (test_node n x h.0, nodes_of_nodes xs h.1) refl
-
-  nodes_of_records : (ys : List ℕ) → nodes_met n (map (λ y. n + y) ys) ≡ []
-  nodes_of_records [] = refl
-  nodes_of_records (y ∷ ys) = rw (test_other n (n + y) (omega arith)) (nodes_of_records ys)
-
-  records_of_nodes : (xs : List ℕ) → AllByRecursion (λ x. x < n) xs → records_met n r xs ≡ []
-  records_of_nodes [] h = refl
-  records_of_nodes (x ∷ xs) h = rw (test_before n r x h.0) (records_of_nodes xs h.1)
-
-  records_of_records : (ys : List ℕ) → AllByRecursion (λ y. y < r) ys → records_met n r (map (λ y. n + y) ys) ≡ ys
-  records_of_records [] h = refl
-  records_of_records (y ∷ ys) h =
-      let l : y < r = h.0 in
-      let first : n + y - n ≡ y = omega arith in
-      rw (test_record n r (n + y) (omega arith) (omega arith)) (cc (first, records_of_records ys h.1))
-
-  -- in front of other cells
   pub nodes_first : (nodes records zs : List ℕ) → AllByRecursion (λ x. x < n) nodes
       → nodes_met n (as_cells n nodes records ++ zs) ≡ nodes ++ nodes_met n zs
-  nodes_first nodes records zs h =
-      simp (filter-append, nodes_of_records records, append-nil, nodes_of_nodes nodes h) refl
+  nodes_first [] [] zs h = refl
+  nodes_first [] (y ∷ records) zs h = grind (arith, nodes_first [] records zs h)
+  nodes_first (x ∷ nodes) records zs h = grind (arith, nodes_first nodes records zs h.1, h.0)
 
   pub records_first : (nodes records zs : List ℕ) → AllByRecursion (λ x. x < n) nodes
       → AllByRecursion (λ y. y < r) records
       → records_met n r (as_cells n nodes records ++ zs) ≡ records ++ records_met n r zs
-  records_first nodes records zs h g =
-      simp (filter-append, map-append, records_of_nodes nodes h, records_of_records records g) refl
+  records_first [] [] zs h g = refl
+  records_first [] (y ∷ records) zs h g = grind (arith, records_first [] records zs h g.1, g.0)
+  records_first (x ∷ nodes) records zs h g = grind (arith, records_first nodes records zs h.1 g, h.0)

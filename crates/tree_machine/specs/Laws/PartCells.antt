@@ -1,14 +1,14 @@
 -- Parts as cells: nodes, behind them records, and behind these what is held; paired parts are paired cells.
 use Rattle.std.proofs.Common.{◌≡◌, ℕ, ◌+◌, ◌-◌, ◌<◌, ◌≤◌, ◌⊎◌, List, ◌++◌, map, length}
-use Rattle.std.proofs.Common.{sym, ◌∙◌, ap, inl, inr, arith, length-append}
-use Rattle.std.specs.Prelude.{Option, Some, None, IfSome, nat_eq}
+use Rattle.std.proofs.Common.{◌∙◌, inl, inr, arith, length-append}
+use Rattle.std.specs.Prelude.{Option, IfSome, nat_eq}
 use Rattle.std.specs.List.{AllZip, All, IsDistinct}
 use Rattle.std.specs.Option.{option_map}
 use Rattle.std.proofs.lemmas.List.{length-map}
-use Rattle.std.proofs.lemmas.List.Elements.{All-append, All-get_or, All-map, All-weaker, AllZip-get_or, length_all_zip}
+use Rattle.std.proofs.lemmas.List.Elements.{All-append, All-from_get_or, All-get_or, All-map, All-weaker}
+use Rattle.std.proofs.lemmas.List.Elements.{AllZip-get_or, length_all_zip}
 use Rattle.std.proofs.lemmas.Option.{IfSome_then, slice_get-get_or, slice_get-map, unwrap_or-slice_get}
 use Rattle.tree_machine.specs.Cells.{Content, content_at, IsPairedOrNone, IsPairing, IsRooted}
-use Rattle.tree_machine.specs.Pairing.{IsOneToOne}
 use Rattle.tree_machine.specs.Parts.{Part, Parts, part_at, ArePartsPaired, IsPartsPairing, IsPartBelow, ArePartsInRange}
 use Rattle.tree_machine.specs.Parts.{no_part, part_cell, parts_graph, parts_held}
 use Rattle.tree_machine.specs.Laws.CellLists.{content_front, content_back, zip_join}
@@ -25,37 +25,33 @@ content_map f parts x l = rw (slice_get-map, slice_get-get_or parts x no_part l)
 pub part_all : (P : Part → Type 0) (parts : List Part) → All P parts → (x : ℕ) → x < length parts → P (part_at parts x)
 part_all P parts h x l = rw unwrap_or-slice_get (All-get_or P parts x no_part l h)
 
+-- and what holds of each part x holds of all parts
+pub all_parts : (P : Part → Type 0) (parts : List Part) → ((x : ℕ) → x < length parts → P (part_at parts x))
+    → All P parts
+all_parts P parts f =
+    All-from_get_or P parts no_part (λ x l. rw (← unwrap_or-slice_get parts x no_part) (f x l))
+
 pub length-parts_graph : (s : Parts) → length (parts_graph s) ≡ length s.nodes + length s.records
 length-parts_graph s = simp (length-append, length-map)
-
-pub length-cells : (s : Parts) → length (parts_graph s ++ parts_held s)
-    ≡ length s.nodes + length s.records + length s.held
-length-cells s = simp (length-append, length-map)
 
 -- nodes, records and what is held, as cells
 abbrev pub all_cells : Parts → List Content
 all_cells s = parts_graph s ++ parts_held s
 
+pub length-cells : (s : Parts) → length (all_cells s) ≡ length s.nodes + length s.records + length s.held
+length-cells s = simp (length-append, length-map)
+
 -- nodes, records and what is held, among all cells
 pub node_at : (s : Parts) (x : ℕ) → x < length s.nodes
-    → content_at (parts_graph s ++ parts_held s) x ≡ part_cell (length s.nodes) (part_at s.nodes x)
-node_at s x l =
-    content_front (parts_graph s) _ x (omega (arith, length-parts_graph s))
-    ∙ content_front _ _ x (simp length-map l)
-    ∙ content_map (part_cell (length s.nodes)) s.nodes x l
+    → content_at (all_cells s) x ≡ part_cell (length s.nodes) (part_at s.nodes x)
+node_at s x l = grind (arith, content_front, length-parts_graph, length-map, content_map)
 
 pub record_at : (s : Parts) (y : ℕ) → y < length s.records
-    → content_at (parts_graph s ++ parts_held s) (length s.nodes + y)
-    ≡ part_cell (length s.nodes) (part_at s.records y)
-record_at s y l =
-    content_front (parts_graph s) _ (length s.nodes + y) (omega (arith, length-parts_graph s))
-    ∙ ap (λ n. content_at (parts_graph s) (n + y)) (sym (length-map s.nodes (part_cell (length s.nodes))))
-    ∙ content_back (map (part_cell (length s.nodes)) s.nodes) _ y
-    ∙ content_map (part_cell (length s.nodes)) s.records y l
+    → content_at (all_cells s) (length s.nodes + y) ≡ part_cell (length s.nodes) (part_at s.records y)
+record_at s y l = grind (arith, content_front, length-parts_graph, length-map, content_back, content_map)
 
 pub held_at : (s : Parts) (i : ℕ) → i < length s.held
-    → content_at (parts_graph s ++ parts_held s) (length (parts_graph s) + i)
-    ≡ part_cell (length s.nodes) (part_at s.held i)
+    → content_at (all_cells s) (length (parts_graph s) + i) ≡ part_cell (length s.nodes) (part_at s.held i)
 held_at s i l = content_back (parts_graph s) _ i ∙ content_map (part_cell (length s.nodes)) s.held i l
 
 -- each ref is none or below n
@@ -66,12 +62,10 @@ part_refs_below : (n r m : ℕ) → n + r ≤ m → (p : Part) → IsPartBelow n
 part_refs_below n r m l p h =
     All-append (λ x. IfSome x (λ y. y < m)) p.nodes _
     (All-weaker _ _ (λ x k. IfSome_then x {P = λ y. y < n} {Q = λ y. y < m} k (λ y less. omega arith)) p.nodes h.nodes)
-    (All-map (λ x. IfSome x (λ y. y < m)) (option_map (λ x. n + x)) p.records
-    (All-weaker _ _ raised p.records h.records))
+    (All-map (λ x. IfSome x (λ y. y < m)) _ p.records (All-weaker _ _ raised p.records h.records))
   where
     raised : (x : Option ℕ) → IfSome x (λ y. y < r) → IfSome (option_map (λ x. n + x) x) (λ y. y < m)
-    raised None k = tt
-    raised (Some y) k = omega arith
+    raised x k = grind arith
 
 module _ (fixed : ℕ) (s : Parts) (h : ArePartsInRange fixed s) where
   cells_below : (m : ℕ) → length s.nodes + length s.records ≤ m → (parts : List Part)
@@ -85,26 +79,22 @@ module _ (fixed : ℕ) (s : Parts) (h : ArePartsInRange fixed s) where
       All-append (RefsBelow m) _ _ (cells_below m l s.nodes h.nodes) (cells_below m l s.records h.records)
 
   -- distinct nodes, records and held cells are roots
-  pub cells_rooted : (roots : List ℕ) → All (λ x. x < length (parts_graph s ++ parts_held s)) roots
-      → IsDistinct nat_eq roots → IsRooted (parts_graph s ++ parts_held s) roots
+  pub cells_rooted : (roots : List ℕ) → All (λ x. x < length (all_cells s)) roots → IsDistinct nat_eq roots
+      → IsRooted (all_cells s) roots
   cells_rooted roots range distinct =
       let long = length-cells s in
       record {
         roots_in_range = range;
         roots_distinct = distinct;
         refs_in_range =
-            All-append (RefsBelow (length (parts_graph s ++ parts_held s))) _ _
+            All-append (RefsBelow (length (all_cells s))) _ _
             (graph_below _ (omega arith)) (cells_below _ (omega arith) s.held h.held);
       }
 
   -- distinct nodes and records are roots of the graph
   pub graph_rooted : (roots : List ℕ) → All (λ x. x < length (parts_graph s)) roots → IsDistinct nat_eq roots
       → IsRooted (parts_graph s) roots
-  graph_rooted roots range distinct = record {
-    roots_in_range = range;
-    roots_distinct = distinct;
-    refs_in_range = graph_below _ (omega (arith, length-parts_graph s));
-  }
+  graph_rooted roots range distinct = grind (arith, graph_below, length-parts_graph)
 
 -- ---- paired parts
 
@@ -113,51 +103,9 @@ pub record AreCellsPaired (P : ℕ → ℕ → Type 0) (c d : Content) : Type 0 
   pub facts : c.facts ≡ d.facts
   pub refs : AllZip (IsPairedOrNone P) c.refs d.refs
 
-or_none_map : (P Q : ℕ → ℕ → Type 0) (f g : ℕ → ℕ) → ((x y : ℕ) → P x y → Q (f x) (g y)) → (r s : Option ℕ)
-    → IsPairedOrNone P r s → IsPairedOrNone Q (option_map f r) (option_map g s)
-or_none_map P Q f g h None None p = tt
-or_none_map P Q f g h (Some x) (Some y) p = h x y p
-or_none_map P Q f g h _ _ p = absurd p
-
-or_none_weaker : (P Q : ℕ → ℕ → Type 0) → ((x y : ℕ) → P x y → Q x y) → (r s : Option ℕ) → IsPairedOrNone P r s
-    → IsPairedOrNone Q r s
-or_none_weaker P Q h None None p = tt
-or_none_weaker P Q h (Some x) (Some y) p = h x y p
-or_none_weaker P Q h _ _ p = absurd p
-
-cells_from_parts : (P R Q : ℕ → ℕ → Type 0) (n m : ℕ) → ((x y : ℕ) → P x y → Q x y)
-    → ((x y : ℕ) → R x y → Q (n + x) (m + y)) → (a b : Part) → ArePartsPaired P R a b
-    → AreCellsPaired Q (part_cell n a) (part_cell m b)
-cells_from_parts P R Q n m f g a b h = record {
-  facts = (let e = length_all_zip (IsPairedOrNone P) a.nodes b.nodes h.nodes in let d = h.facts in cc);
-  refs =
-      zip_join (IsPairedOrNone Q) a.nodes b.nodes _ _
-      (AllZip-weaker _ _ (or_none_weaker P Q f) a.nodes b.nodes h.nodes)
-      (map_zip (IsPairedOrNone Q) _ _ a.records b.records
-      (AllZip-weaker (IsPairedOrNone R) _ (or_none_map R Q _ _ g) a.records b.records h.records));
-}
-
-held_behind : (s : Parts) (i : ℕ) → i < length s.held
-    → content_at (all_cells s) (length s.nodes + length s.records + i) ≡ part_cell (length s.nodes) (part_at s.held i)
-held_behind s i l = ap (λ n. content_at (all_cells s) (n + i)) (sym (length-parts_graph s)) ∙ held_at s i l
-
-part_from_zip : (Q : Part → Part → Type 0) (ps qs : List Part) → AllZip Q ps qs → (i : ℕ) → i < length ps
-    → Q (part_at ps i) (part_at qs i)
-part_from_zip Q ps qs z i l =
-    rw (unwrap_or-slice_get ps i no_part, unwrap_or-slice_get qs i no_part) (AllZip-get_or Q ps qs i _ _ z l)
-
 -- P pairs numbers below n with numbers below m, and Q pairs those from there on
 abbrev pub BelowOrBehind : ℕ → ℕ → (ℕ → ℕ → Type 0) → (ℕ → ℕ → Type 0) → ℕ → ℕ → Type 0
 BelowOrBehind n m P Q x y = ((x < n) × (y < m) × P x y) ⊎ ((n ≤ x) × (m ≤ y) × Q (x - n) (y - m))
-
-below_or_behind_one : (n m : ℕ) (P Q : ℕ → ℕ → Type 0) → IsOneToOne P → IsOneToOne Q
-    → IsOneToOne (BelowOrBehind n m P Q)
-below_or_behind_one n m P Q one then x y v w (inl p) (inl q) = one x y v w p.2 q.2
-below_or_behind_one n m P Q one then x y v w (inr p) (inr q) =
-    let both = then _ _ _ _ p.2 q.2 in
-    (λ e. omega (arith, both.0 (omega arith)), λ e. omega (arith, both.1 (omega arith)))
-below_or_behind_one n m P Q one then x y v w (inl p) (inr q) = (λ e. omega arith, λ e. omega arith)
-below_or_behind_one n m P Q one then x y v w (inr p) (inl q) = (λ e. omega arith, λ e. omega arith)
 
 module _ (P R : ℕ → ℕ → Type 0) (s t : Parts) where
   -- paired records, or what is held at one place
@@ -172,54 +120,29 @@ module _ (P R : ℕ → ℕ → Type 0) (s t : Parts) where
     pub held_long : length s.held ≡ length t.held
     held_long = length_all_zip (ArePartsPaired P R) s.held t.held h.held_paired
 
-    paired_one : IsOneToOne Paired
-    paired_one =
-        let one_place : IsOneToOne (λ i j. (i ≡ j) × (i < length s.held)) = λ x y v w p q. (λ e. cc, λ e. cc) in
-        below_or_behind_one _ _ P _ h.nodes_one_to_one (below_or_behind_one _ _ R _ h.records_one_to_one one_place)
-
-    paired_range : (x y : ℕ) → Paired x y
-        → (x < length (parts_graph s ++ parts_held s)) × (y < length (parts_graph t ++ parts_held t))
-    paired_range x y (inl p) = (omega (arith, length-cells s), omega (arith, length-cells t))
-    paired_range x y (inr (l, k, inl p)) = (omega (arith, length-cells s), omega (arith, length-cells t))
-    paired_range x y (inr (l, k, inr p)) =
-        let many = held_long in (omega (arith, length-cells s), omega (arith, length-cells t))
-
     pub paired_node : (x y : ℕ) → P x y → Paired x y
     paired_node x y p = let r = h.nodes_in_range x y p in inl (r.0, r.1, p)
 
     pub paired_record : (x y : ℕ) → R x y → Paired (length s.nodes + x) (length t.nodes + y)
-    paired_record x y p =
-        let r = h.records_in_range x y p in
-        let e : length s.nodes + x - length s.nodes ≡ x = omega arith in
-        let f : length t.nodes + y - length t.nodes ≡ y = omega arith in
-        inr (omega arith, omega arith, rw (e, f) (inl (r.0, r.1, p)))
+    paired_record x y p = inr (omega arith, omega arith, grind (arith, h.records_in_range x y p, p))
 
     cells_paired : (a b : Part) → ArePartsPaired P R a b
         → AreCellsPaired Paired (part_cell (length s.nodes) a) (part_cell (length t.nodes) b)
-    cells_paired = cells_from_parts P R Paired _ _ paired_node paired_record
+    cells_paired a b k =
+        grind (arith, length_all_zip, zip_join, AllZip-weaker, paired_node, map_zip, paired_record)
 
     paired_cells : (x y : ℕ) → Paired x y
-        → AreCellsPaired Paired (content_at (parts_graph s ++ parts_held s) x)
-        (content_at (parts_graph t ++ parts_held t) y)
+        → AreCellsPaired Paired (content_at (all_cells s) x) (content_at (all_cells t) y)
     paired_cells x y (inl (l, k, p)) = rw (node_at s x l, node_at t y k) (cells_paired _ _ (h.nodes_paired x y p))
     paired_cells x y (inr (l, k, inl (i, j, p))) =
-        let e : length s.nodes + (x - length s.nodes) ≡ x = omega arith in
-        let f : length t.nodes + (y - length t.nodes) ≡ y = omega arith in
-        rw (← e, ← f, record_at s _ i, record_at t _ j) (cells_paired _ _ (h.records_paired _ _ p))
+        grind (arith, record_at s (x - length s.nodes), record_at t (y - length t.nodes), cells_paired)
     paired_cells x y (inr (l, k, inr (g, j, p))) =
         let a = x - length s.nodes - length s.records in
-        let e : length s.nodes + length s.records + a ≡ x = omega arith in
-        let f : length t.nodes + length t.records + a ≡ y = omega arith in
-        rw (← e, ← f, held_behind s a p.1, held_behind t a (omega (arith, held_long)))
-        (cells_paired _ _ (part_from_zip (ArePartsPaired P R) s.held t.held h.held_paired a p.1))
+        let e : length (parts_graph s) + a ≡ x = omega (arith, length-parts_graph s) in
+        let f : length (parts_graph t) + a ≡ y = omega (arith, length-parts_graph t) in
+        grind (arith, held_at, held_long, cells_paired, unwrap_or-slice_get, AllZip-get_or)
 
     -- paired parts are paired cells, from all roots that are paired
     pub cells_pairing : (roots targets : List ℕ) → AllZip Paired roots targets
-        → IsPairing Paired (parts_graph s ++ parts_held s) roots (parts_graph t ++ parts_held t) targets
-    cells_pairing roots targets z = record {
-      one_to_one = paired_one;
-      in_range = paired_range;
-      roots_paired = z;
-      facts_equal = λ x y p. (paired_cells x y p).facts;
-      refs_paired = λ x y p. (paired_cells x y p).refs;
-    }
+        → IsPairing Paired (all_cells s) roots (all_cells t) targets
+    cells_pairing roots targets z = grind (arith, length-cells s, length-cells t, held_long, paired_cells)

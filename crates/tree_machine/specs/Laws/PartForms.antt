@@ -1,6 +1,6 @@
 -- A machine whose memory and places are in parts: its forms are exact, and its codes tell and decode what they are of.
 use Rattle.std.specs.Prelude.{◌≡◌, ◌↔◌, ℕ, List, length, Option}
-use Rattle.std.proofs.Common.{sym, ◌∙◌}
+use Rattle.std.proofs.Common.{arith, sym, ◌∙◌}
 use Rattle.tree_machine.specs.Canonical.{canonical_code}
 use Rattle.tree_machine.specs.Flat.{parts_code}
 use Rattle.tree_machine.specs.FormCode.{TellsWholly}
@@ -24,9 +24,7 @@ module _ {Memory Place : Type 0} (parts : Memory → List (Option Place) → Par
       → TellsWholly (λ memory held. parts_code front (parts memory held))
       (λ memory held. parts_code other_front (parts memory held))
   parts_tell_wholly tell front other_front memory other held others many e =
-      tell memory other held others
-      (parts_code_tells front other_front (parts memory held) (parts other others)
-      (same_count memory other held others many) e).0
+      grind (arith, parts_code_tells, same_count)
 
   -- memories and places are in range exactly where their parts are, and alike exactly where their parts can be paired
   module _ (rules : Rules Memory Place) (fixed : ℕ)
@@ -40,8 +38,7 @@ module _ {Memory Place : Type 0} (parts : Memory → List (Option Place) → Par
         let codes =
         canonical_codes_exactly fixed _ _ (in_range memory held h places) (in_range other others k other_places)
         (same_count memory other held others many) in
-        let alike = exactly memory other held others in
-        ((λ e. alike.0 (codes.0 e)), (λ a. codes.1 (alike.1 a)))
+        grind (arith, codes, exactly memory other held others)
 
     pub parts_decode : ((memory : Memory) (held : List (Option Place)) → ArePartsInRange fixed (parts memory held)
         → rules.IsInRange memory × ArePlacesInRange rules memory held) → (front : Front)
@@ -51,5 +48,5 @@ module _ {Memory Place : Type 0} (parts : Memory → List (Option Place) → Par
         let here = in_range memory held h places in
         let long = same_count memory other held others many in
         let there = back other others (decoded_in_range fixed (parts memory held) _ front here long e) in
-        let alike = exactly memory other held others in
-        (there.0, there.1, alike.0 (decoded_paired fixed (parts memory held) _ front here long e))
+        let paired = decoded_paired fixed (parts memory held) _ front here long e in
+        grind (arith, there, exactly memory other held others)

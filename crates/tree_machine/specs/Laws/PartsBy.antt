@@ -1,11 +1,11 @@
 -- Parts that are renamed by nodes and records: paired with those they come from, in range, and the same where these
 -- are paired.
-use Rattle.std.proofs.Common.{◌≡◌, ℕ, ◌<◌, ◌≤◌, List, [], ◌∷◌, map, length, refl, ap, arith, get_or}
+use Rattle.std.proofs.Common.{◌≡◌, ℕ, ◌<◌, ◌≤◌, List, [], ◌∷◌, map, length, ap, get_or, arith}
 use Rattle.std.specs.Prelude.{slice_get, Option, Some, None, nat_eq, IfSome}
 use Rattle.std.specs.List.{AllZip, All, AllByRecursion, IsDistinct, zip}
 use Rattle.std.specs.Option.{option_and_then}
 use Rattle.std.proofs.lemmas.List.{length-map}
-use Rattle.std.proofs.lemmas.List.Elements.{All-map, recursion_from_All}
+use Rattle.std.proofs.lemmas.List.Elements.{All-map}
 use Rattle.std.proofs.lemmas.Option.{slice_get-map, slice_get_within}
 use Rattle.tree_machine.specs.Cells.{place_in}
 use Rattle.tree_machine.specs.Pairing.{IsAmong}
@@ -14,7 +14,6 @@ use Rattle.tree_machine.specs.Parts.{Part, Parts, part_at, ArePartsPaired, IsPar
 use Rattle.tree_machine.specs.Canonical.{renamed_part, parts_by}
 use Rattle.tree_machine.specs.Laws.Cells.{map_paired, unmap, refs_from_renamed}
 use Rattle.tree_machine.specs.Laws.CellOrder.{Has, HasAll, Extends, all_has, get_extends}
-use Rattle.tree_machine.specs.Laws.CellLists.{numbers_all}
 use Rattle.tree_machine.specs.Laws.CellPlaces.{refs_renamed, get_place, has_at, among_at, at_among, rel_among, zip_one}
 use Rattle.tree_machine.specs.Laws.MetLists.{own_number, places, among_places, places_among, places_one, refs_placed}
 
@@ -39,11 +38,10 @@ part_map_at f xs k x h = rw (slice_get-map, h)
 
 place_below : (xs : List ℕ) (r : Option ℕ) → IfSome (option_and_then (place_in xs) r) (λ y. y < length xs)
 place_below xs None = tt
-place_below xs (Some x) = go (place_in xs x) refl
-  where
-    go : (r : Option ℕ) → place_in xs x ≡ r → IfSome r (λ y. y < length xs)
-    go None e = tt
-    go (Some k) e = slice_get_within xs k x (get_place xs x k e)
+place_below xs (Some x) =
+    let within : (k : ℕ) → place_in xs x ≡ Some k → k < length xs =
+    λ k e. slice_get_within xs k x (get_place xs x k e) in
+    grind (arith, within)
 
 placed_below : (xs : List ℕ) (refs : List (Option ℕ))
     → All (λ r. IfSome r (λ y. y < length xs)) (map (option_and_then (place_in xs)) refs)
@@ -58,19 +56,14 @@ pair_range n m xs ys below above x y p =
 
 place_range : (n : ℕ) (f : ℕ → Part) (xs : List ℕ) → AllByRecursion (λ x. x < n) xs → (x y : ℕ)
     → IsAmong (places xs) x y → (x < n) × (y < length (map f xs))
-place_range n f xs below =
-    pair_range n _ xs _ below
-    (recursion_from_All _ _
-    (numbers_all (λ y. y < length (map f xs)) 0 (length xs) (λ y l k. rw length-map (omega arith))))
+place_range n f xs below x y p =
+    let at = places_among xs x y p in
+    (all_has (λ x. x < n) xs below x (has_at xs y x at), rw length-map (slice_get_within xs y x at))
 
 module _ (nodes records : List ℕ) where
   part_paired : (p : Part) → IsPartMet nodes records p
       → ArePartsPaired (IsAmong (places nodes)) (IsAmong (places records)) p (renamed_part nodes records p)
-  part_paired p h = record {
-    facts = refl;
-    nodes = refs_placed nodes p.nodes h.0;
-    records = refs_placed records p.records h.1;
-  }
+  part_paired p h = grind (arith, refs_placed)
 
   held_paired : (ps : List Part) → AllByRecursion (IsPartMet nodes records) ps
       → AllZip (ArePartsPaired (IsAmong (places nodes)) (IsAmong (places records))) ps
@@ -124,14 +117,13 @@ pub by_same : (P R : ℕ → ℕ → Type 0) (fixed : ℕ) (s t : Parts) (nodes 
 by_same P R fixed s t nodes records others targets h z w =
     let same : (a b : Part) → ArePartsPaired P R a b → renamed_part nodes records a ≡ renamed_part others targets b =
     λ a b p.
-    let facts = p.facts in
     let first = refs_renamed P h.nodes_one_to_one nodes others z a.nodes b.nodes p.nodes in
     let then = refs_renamed R h.records_one_to_one records targets w a.records b.records p.records in
-    λ i. record { facts = facts i; nodes = first i; records = then i } in
+    grind arith in
     let first = map_paired P _ _ (λ x y p. same _ _ (h.nodes_paired x y p)) nodes others z in
     let then = map_paired R _ _ (λ x y p. same _ _ (h.records_paired x y p)) records targets w in
     let last = map_paired (ArePartsPaired P R) _ _ same s.held t.held h.held_paired in
-    λ i. record { nodes = first i; records = then i; held = last i }
+    cc
 
 -- and the same is left of nodes and records that are paired place by place
 module _ (fixed : ℕ) (s t : Parts) (nodes records others targets : List ℕ) (here : AreMet fixed s nodes records)
@@ -144,20 +136,13 @@ module _ (fixed : ℕ) (s t : Parts) (nodes records others targets : List ℕ) (
 
   part_from_same : (a b : Part) → IsPartMet nodes records a → IsPartMet others targets b
       → renamed_part nodes records a ≡ renamed_part others targets b → ArePartsPaired P R a b
-  part_from_same a b h g e = record {
-    facts = ap (λ p. p.facts) e;
-    nodes = refs_from_renamed nodes others a.nodes b.nodes h.0 g.0 (ap (λ p. p.nodes) e);
-    records = refs_from_renamed records targets a.records b.records h.1 g.1 (ap (λ p. p.records) e);
-  }
+  part_from_same a b h g e = grind (arith, refs_from_renamed)
 
   held_from_same : (ps qs : List Part) → AllByRecursion (IsPartMet nodes records) ps
       → AllByRecursion (IsPartMet others targets) qs
       → map (renamed_part nodes records) ps ≡ map (renamed_part others targets) qs → AllZip (ArePartsPaired P R) ps qs
   held_from_same [] [] h g e = tt
-  held_from_same (p ∷ ps) (q ∷ qs) h g e = (
-    part_from_same p q h.0 g.0 (cc),
-    held_from_same ps qs h.1 g.1 (cc),
-  )
+  held_from_same (p ∷ ps) (q ∷ qs) h g e = grind (arith, part_from_same p q h.0 g.0, held_from_same ps qs h.1 g.1)
   held_from_same _ _ h g e = cc
 
   pub paired_from_same : AllByRecursion (IsPartMet nodes records) s.held
@@ -176,14 +161,10 @@ module _ (fixed : ℕ) (s t : Parts) (nodes records others targets : List ℕ) (
         nodes_in_range = pair_range _ _ nodes others here.nodes_below there.nodes_below;
         records_in_range = pair_range _ _ records targets here.records_below there.records_below;
         nodes_paired = λ x y p.
-            let at = at_among nodes others x y p in
-            part_from_same _ _ (here.nodes_closed x (has_at nodes at.0 x at.1))
-            (there.nodes_closed y (has_at others at.0 y at.2))
-            (rel_among _ nodes others same_nodes x y p);
+            let same = rel_among _ nodes others same_nodes x y p in
+            grind (arith, at_among nodes others x y p, part_from_same, has_at);
         records_paired = λ x y p.
-            let at = at_among records targets x y p in
-            part_from_same _ _ (here.records_closed x (has_at records at.0 x at.1))
-            (there.records_closed y (has_at targets at.0 y at.2))
-            (rel_among _ records targets same_records x y p);
+            let same = rel_among _ records targets same_records x y p in
+            grind (arith, at_among records targets x y p, part_from_same, has_at);
         held_paired = held_from_same s.held t.held h g (ap (λ p. p.held) e);
       }

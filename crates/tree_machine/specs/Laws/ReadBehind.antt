@@ -1,5 +1,5 @@
 -- Nodes, records and what the threads hold, read behind a front that stays.
-use Rattle.std.proofs.Common.{◌≡◌, ℕ, ◌≤◌, List, ◌++◌, length, map, take, drop, sym, ◌∙◌}
+use Rattle.std.proofs.Common.{◌≡◌, ℕ, ◌≤◌, List, ◌++◌, length, map, take, drop, sym, ◌∙◌, arith}
 use Rattle.std.specs.Prelude.{Option}
 use Rattle.std.specs.List.{flat_map}
 use Rattle.std.proofs.lemmas.List.{drop_at, length-map, length-take-le, map-append, take_at, take-map}
@@ -29,8 +29,7 @@ pub behind_read : {Place : Type 0} (part : Option Place → Part) (front : Front
     → bytes ≡ flat_map (λ thread. cell_code (part_content (part thread.place))) threads ++ rest
     → rest ≡ left_code more others
     → bytes ≡ behind_code front (record { nodes = nodes; records = records; held = map part (places_of threads) })
-behind_read part front nodes records more others threads bytes rest e f b r =
-    rw (b, r, places_coded part threads, e, f)
+behind_read part front nodes records more others threads bytes rest e f b r = grind (arith, places_coded)
 
 pub front_kept : (front : Front) (nodes records old kept held : List Part) → take front.nodes nodes
     ≡ take front.nodes old

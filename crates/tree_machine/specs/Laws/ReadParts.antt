@@ -1,6 +1,6 @@
 -- Values that were read from the code of their parts, one behind the other.
 use Rattle.std.proofs.Common.{◌≡◌, ℕ, zero, suc, ◌+◌, ◌<◌, List, [], ◌∷◌, ◌++◌, length, map, take, drop, refl}
-use Rattle.std.proofs.Common.{sym, ap, append_assoc, append-nil, arith}
+use Rattle.std.proofs.Common.{append_assoc, append-nil, arith}
 use Rattle.std.proofs.Math.Seq.{map-set_same}
 use Rattle.std.specs.Prelude.{Option, slice_index_or, slice_set}
 use Rattle.std.specs.List.{flat_map}
@@ -16,22 +16,14 @@ drop_none zero = refl
 drop_none (suc n) = refl
 
 module _ {X : Type 0} (f : X → Part) where
-  one_more_code : (xs : List X) (x : X)
-      → part_codes (map f (xs ++ x ∷ [])) ≡ part_codes (map f xs) ++ cell_code (part_content (f x))
-  one_more_code xs x = simp (map-append, flat_map-append, append-nil)
-
   -- one value more is read
   pub one_read : (old more : List X) (x : X) (count : ℕ) (items after : List X) (bytes rest behind : List ℕ)
       → items ≡ old ++ more → length more ≡ count → bytes ≡ part_codes (map f more) ++ rest
       → after ≡ items ++ x ∷ [] → rest ≡ cell_code (part_content (f x)) ++ behind
       → (more : List X) × (after ≡ old ++ more) × (length more ≡ count + 1)
       × (bytes ≡ part_codes (map f more) ++ behind)
-  one_read old more x count items after bytes rest behind e l b a r = (
-    more ++ x ∷ [],
-    rw (a, e, append_assoc),
-    rw (length_push, l),
-    rw (b, r, one_more_code more x) (sym (append_assoc (part_codes (map f more)) _ behind)),
-  )
+  one_read old more x count items after bytes rest behind e l b a r =
+      grind (arith, append_assoc, length_push, map-append, flat_map-append, append-nil)
 
   -- all that was read comes in front
   pub take_read : (xs : List X) (count : ℕ) → length xs ≡ count → take count (map f xs) ≡ map f xs
@@ -54,5 +46,4 @@ kept_at f xs i x d same = map-set_same f xs i x d same
 pub places_coded : {Place : Type 0} (f : Option Place → Part) (threads : List (Thread Place))
     → flat_map (λ thread. cell_code (part_content (f thread.place))) threads ≡ part_codes (map f (places_of threads))
 places_coded f [] = refl
-places_coded f (thread ∷ threads) =
-    ap (λ l. cell_code (part_content (f thread.place)) ++ l) (places_coded f threads)
+places_coded f (thread ∷ threads) = grind (arith, places_coded f threads)

@@ -1,49 +1,31 @@
 -- Laws of search order.
 use Rattle.std.specs.Prelude.{◌≡◌, ℕ, zero, suc, ◌+◌, ◌<◌, ◌≤◌, min, max, nat_lt, if◌then◌else◌, refl, Option, Some}
 use Rattle.std.specs.Prelude.{None}
-use Rattle.std.proofs.Common.{◌↔◌, arith, sym, ap, subst}
+use Rattle.std.proofs.Common.{◌↔◌, arith}
 use Rattle.tree_machine.specs.declared.search_order.Shape.{Shape}
 use Rattle.tree_machine.specs.declared.search_order.Shape.TheVariants.{Leaf, Internal}
-use Rattle.tree_machine.specs.SearchOrder.{IsNodeOrdered, IsOrderedWithin, IsOrdered, went_down, end_of}
+use Rattle.tree_machine.specs.SearchOrder.{IsNodeOrdered, IsOrderedWithin, IsOrdered, end_of}
 
 module _ (shapes : ℕ → Option Shape) where
-  apart_node : (levels : ℕ) → ((low high x : ℕ) → IsOrderedWithin shapes levels low high x → low < high)
-      → (low high : ℕ) (shape : Option Shape) → IsNodeOrdered (IsOrderedWithin shapes levels) low high shape
-      → low < high
-  apart_node levels f low high None o = absurd o
-  apart_node levels f low high (Some (Leaf k)) o = let a = o.0 in let b = o.1 in omega arith
-  apart_node levels f low high (Some (Internal m l r)) o =
-      let a = f low (min m high) l o.0 in
-      let b = f (max m low) high r o.1 in
-      omega arith
-
   -- what is in order has a key between its bounds
   pub apart : (levels low high x : ℕ) → IsOrderedWithin shapes levels low high x → low < high
   apart zero low high x h = absurd h
-  apart (suc levels) low high x h = apart_node levels (apart levels) low high (shapes x) h
-
-  more_node : (A B : ℕ → ℕ → ℕ → Type 0) → ((low high x : ℕ) → A low high x → B low high x)
-      → (low high : ℕ) (shape : Option Shape) → IsNodeOrdered A low high shape → IsNodeOrdered B low high shape
-  more_node A B f low high None o = o
-  more_node A B f low high (Some (Leaf k)) o = o
-  more_node A B f low high (Some (Internal m l r)) o = (f low (min m high) l o.0, f (max m low) high r o.1)
+  apart (suc levels) low high x h = grind (arith, apart levels)
 
   -- more levels do no harm
   pub more_levels : (levels more low high x : ℕ) → levels ≤ more → IsOrderedWithin shapes levels low high x
       → IsOrderedWithin shapes more low high x
   more_levels zero more low high x le h = absurd h
   more_levels (suc levels) zero low high x le h = absurd (omega arith)
-  more_levels (suc levels) (suc more) low high x le h =
-      more_node (IsOrderedWithin shapes levels) (IsOrderedWithin shapes more)
-      (λ low high x. more_levels levels more low high x (omega arith)) low high (shapes x) h
+  more_levels (suc levels) (suc more) low high x le h = grind (arith, more_levels levels more)
 
   pub of_node : (levels low high x : ℕ) (shape : Option Shape) → shapes x ≡ shape
       → IsNodeOrdered (IsOrderedWithin shapes levels) low high shape → IsOrderedWithin shapes (suc levels) low high x
-  of_node levels low high x shape e o = subst (IsNodeOrdered (IsOrderedWithin shapes levels) low high) (sym e) o
+  of_node levels low high x shape e o = rw e o
 
   pub to_node : (levels low high x : ℕ) (shape : Option Shape) → shapes x ≡ shape
       → IsOrderedWithin shapes (suc levels) low high x → IsNodeOrdered (IsOrderedWithin shapes levels) low high shape
-  to_node levels low high x shape e o = subst (IsNodeOrdered (IsOrderedWithin shapes levels) low high) e o
+  to_node levels low high x shape e o = rw e at o
 
   below : (levels low high x : ℕ) (shape : Option Shape) → shapes x ≡ shape → IsOrderedWithin shapes levels low high x
       → (fewer : ℕ) × IsNodeOrdered (IsOrderedWithin shapes fewer) low high shape
@@ -51,14 +33,11 @@ module _ (shapes : ℕ → Option Shape) where
   below (suc levels) low high x shape e o = (levels, to_node levels low high x shape e o)
 
   pub none_is_ordered : (low high x : ℕ) → shapes x ≡ None → IsOrdered shapes low high x ↔ ⊥
-  none_is_ordered low high x e = ((λ o. (below o.levels low high x None e o.within).1), (λ o. absurd o))
+  none_is_ordered low high x e = grind arith
 
   pub leaf_is_ordered : (low high x k : ℕ) → shapes x ≡ Some (Leaf k) → IsOrdered shapes low high x
       ↔ ((low ≤ k) × (k < high))
-  leaf_is_ordered low high x k e = (
-    (λ o. (below o.levels low high x (Some (Leaf k)) e o.within).1),
-    (λ o. record { levels = 1; within = of_node 0 low high x (Some (Leaf k)) e o }),
-  )
+  leaf_is_ordered low high x k e = grind arith
 
   pub internal_is_ordered : (low high x m l r : ℕ) → shapes x ≡ Some (Internal m l r) →
       IsOrdered shapes low high x ↔ ((low < m) × (m < high) × IsOrdered shapes low m l × IsOrdered shapes m high r)
@@ -66,39 +45,25 @@ module _ (shapes : ℕ → Option Shape) where
     (λ o. let t = below o.levels low high x (Some (Internal m l r)) e o.within in
         let a = apart t.0 low (min m high) l t.1.0 in
         let b = apart t.0 (max m low) high r t.1.1 in
-        let to_left : min m high ≡ m = omega arith in
-        let to_right : max m low ≡ m = omega arith in (
-          omega arith,
-          omega arith,
-          record { levels = t.0; within = rw to_left at t.1.0 },
-          record { levels = t.0; within = rw to_right at t.1.1 },
-        )),
+        grind arith),
     (λ o. let n = o.2.levels in let p = o.3.levels in
         let left = more_levels n (n + p) low m l (omega arith) o.2.within in
         let right = more_levels p (n + p) m high r (omega arith) o.3.within in
-        let to_left : min m high ≡ m = omega arith in
-        let to_right : max m low ≡ m = omega arith in
-        record {
-          levels = suc (n + p);
-          within = of_node (n + p) low high x (Some (Internal m l r)) e (rw (to_left, to_right) (left, right));
-        }),
+        record { levels = suc (n + p); within = grind arith }),
   )
 
   -- a search ends at a leaf, and where there is no node
   pub end_at_none : (k levels parent x : ℕ) → shapes x ≡ None
       → end_of shapes k levels parent x ≡ record { parent = parent; leaf = x }
   end_at_none k zero parent x e = refl
-  end_at_none k (suc levels) parent x e =
-      ap (went_down k (end_of shapes k levels x) (record { parent = parent; leaf = x })) e
+  end_at_none k (suc levels) parent x e = rw e
 
   pub end_at_leaf : (k levels parent x j : ℕ) → shapes x ≡ Some (Leaf j)
       → end_of shapes k levels parent x ≡ record { parent = parent; leaf = x }
   end_at_leaf k zero parent x j e = refl
-  end_at_leaf k (suc levels) parent x j e =
-      ap (went_down k (end_of shapes k levels x) (record { parent = parent; leaf = x })) e
+  end_at_leaf k (suc levels) parent x j e = rw e
 
   -- and goes on from an internal node
   pub end_below : (k levels parent x m l r : ℕ) → shapes x ≡ Some (Internal m l r)
       → end_of shapes k (suc levels) parent x ≡ end_of shapes k levels x (if nat_lt k m then l else r)
-  end_below k levels parent x m l r e =
-      ap (went_down k (end_of shapes k levels x) (record { parent = parent; leaf = x })) e
+  end_below k levels parent x m l r e = rw e

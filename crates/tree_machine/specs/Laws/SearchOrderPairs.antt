@@ -1,8 +1,9 @@
 -- Memories whose paired nodes are seen alike keep search order, or neither does.
-use Rattle.std.specs.Prelude.{◌≡◌, ◌↔◌, ℕ, zero, suc, min, max, Option, Some, None}
+use Rattle.std.specs.Prelude.{◌≡◌, ◌↔◌, ℕ, zero, suc, Option, Some, None}
+use Rattle.std.proofs.Common.{arith}
 use Rattle.tree_machine.specs.declared.search_order.Shape.{Shape}
 use Rattle.tree_machine.specs.declared.search_order.Shape.TheVariants.{Leaf, Internal}
-use Rattle.tree_machine.specs.SearchOrder.{IsNodeOrdered, IsOrderedWithin, KeepsSearchOrder}
+use Rattle.tree_machine.specs.SearchOrder.{IsOrderedWithin, KeepsSearchOrder}
 
 -- no node in both, or the same kind and key, and children that P pairs, side by side
 abbrev pub AreShapesPaired : (ℕ → ℕ → Type 0) → Option Shape → Option Shape → Type 0
@@ -12,29 +13,11 @@ AreShapesPaired P (Some (Internal k l r)) (Some (Internal j m s)) = (k ≡ j) ×
 AreShapesPaired P _ _ = ⊥
 
 module _ (P : ℕ → ℕ → Type 0) where
-  node_order : (A B : ℕ → ℕ → ℕ → Type 0) → ((low high x y : ℕ) → P x y → A low high x ↔ B low high y)
-      → (low high : ℕ) (a b : Option Shape) → AreShapesPaired P a b
-      → IsNodeOrdered A low high a ↔ IsNodeOrdered B low high b
-  node_order A B below low high None None h = ((λ o. o), (λ o. o))
-  node_order A B below low high (Some (Leaf k)) (Some (Leaf j)) h = (λ o. rw (← h) o, λ o. rw h o)
-  node_order A B below low high (Some (Internal k l r)) (Some (Internal j m s)) h =
-      let left = below low (min k high) l m h.1 in
-      let right = below (max k low) high r s h.2 in (
-        (λ o. rw (← h.0) (left.0 o.0, right.0 o.1)),
-        (λ o. let p = rw (← h.0) at o in (left.1 p.0, right.1 p.1)),
-      )
-  node_order A B below low high _ _ h = absurd h
-
   module _ (shapes others : ℕ → Option Shape) (seen : (x y : ℕ) → P x y → AreShapesPaired P (shapes x) (others y)) where
     within_order : (levels low high x y : ℕ) → P x y → IsOrderedWithin shapes levels low high x
         ↔ IsOrderedWithin others levels low high y
     within_order zero low high x y p = ((λ o. o), (λ o. o))
-    within_order (suc levels) low high x y p =
-        node_order (IsOrderedWithin shapes levels) (IsOrderedWithin others levels) (within_order levels) low high
-        (shapes x) (others y) (seen x y p)
+    within_order (suc levels) low high x y p = grind (arith, within_order levels)
 
     pub search_order_paired : P 0 0 → KeepsSearchOrder shapes ↔ KeepsSearchOrder others
-    search_order_paired root = (
-      (λ o. record { levels = o.levels; within = (within_order o.levels 0 103 0 0 root).0 o.within }),
-      (λ o. record { levels = o.levels; within = (within_order o.levels 0 103 0 0 root).1 o.within }),
-    )
+    search_order_paired root = grind (arith, within_order)

@@ -1,52 +1,34 @@
 -- Notes are read back from their numbers.
-use Rattle.std.proofs.Common.{◌≡◌, ℕ, zero, suc, ◌+◌, ◌*◌, ◌/◌, ◌%◌, ◌^◌, ◌<◌, ◌≤◌, true, ◌&&◌, List, [], ◌∷◌}
-use Rattle.std.proofs.Common.{◌++◌, length, take, refl, ap, ap₂, arith, get_or}
-use Rattle.std.specs.Prelude.{nat_le, nat_lt}
-use Rattle.std.specs.List.{AllByRecursion}
+use Rattle.std.proofs.Common.{◌≡◌, ℕ, zero, suc, ◌+◌, ◌*◌, ◌/◌, ◌%◌, ◌^◌, ◌<◌, ◌≤◌, true, List, [], ◌∷◌}
+use Rattle.std.proofs.Common.{◌++◌, length, take, refl, arith, get_or}
 use Rattle.std.proofs.lemmas.List.{length-take}
-use Rattle.std.proofs.lemmas.Bool.{leb-true, le-leb, ltb-true, lt-ltb}
-use Rattle.sched_program.specs.Laws.Exact.{both}
+use Rattle.std.proofs.lemmas.Bool.Decides.{nat_tests}
 use Rattle.tree_machine.specs.Packed.{note_number, counts_in, are_digits, is_short}
 
 -- ---- what a short note is
 
 pub short_parts : (counts : List ℕ) → is_short counts ≡ true → (length counts ≤ 4) × (are_digits counts ≡ true)
-short_parts counts h =
-    let parts = both (nat_le (length counts) 4) (are_digits counts) h in (leb-true (length counts) 4 parts.0, parts.1)
+short_parts counts h = grind arith
 
 pub short_of : (counts : List ℕ) → length counts ≤ 4 → are_digits counts ≡ true → is_short counts ≡ true
-short_of counts bounded digits = ap₂ ◌&&◌ (le-leb (length counts) 4 bounded) digits
+short_of counts bounded digits = grind arith
 
 pub digits_more : (counts : List ℕ) (count : ℕ) → are_digits counts ≡ true → count < 8
     → are_digits (counts ++ count ∷ []) ≡ true
-digits_more [] count digits small = ap (λ b. b && true) (lt-ltb count 8 small)
-digits_more (first ∷ counts) count digits small =
-    let parts = both (nat_lt first 8) (are_digits counts) digits in
-    ap₂ ◌&&◌ parts.0 (digits_more counts count parts.1 small)
+digits_more [] count digits small = grind arith
+digits_more (first ∷ counts) count digits small = grind (arith, digits_more counts count)
 
 digits_fewer : (k : ℕ) (counts : List ℕ) → are_digits counts ≡ true → are_digits (take k counts) ≡ true
 digits_fewer zero counts digits = refl
 digits_fewer (suc k) [] digits = refl
-digits_fewer (suc k) (count ∷ counts) digits =
-    let parts = both (nat_lt count 8) (are_digits counts) digits in
-    ap₂ ◌&&◌ parts.0 (digits_fewer k counts parts.1)
+digits_fewer (suc k) (count ∷ counts) digits = grind (arith, digits_fewer k counts)
 
 -- the counts of any number are a short note
 pub counts_short : (n : ℕ) → is_short (counts_in n) ≡ true
 unfolding counts_in
-counts_short n =
-    let digit = λ (x : ℕ). lt-ltb (x % 8) 8 (omega arith) in
-    let digits = n % 8 ∷ n / 8 % 8 ∷ n / 64 % 8 ∷ n / 512 % 8 ∷ [] in
-    let all : are_digits digits ≡ true = rw (digit n, digit (n / 8), digit (n / 64), digit (n / 512)) refl in
-    short_of (take (n / 4096) digits) (omega (arith, length-take {A = ℕ})) (digits_fewer (n / 4096) digits all)
+counts_short n = grind (arith, nat_tests, short_of, length-take, digits_fewer)
 
 -- ---- from a note to its number and back
-
-digits_small : (counts : List ℕ) → are_digits counts ≡ true → AllByRecursion (λ count. count < 8) counts
-digits_small [] digits = tt
-digits_small (count ∷ counts) digits =
-    let parts = both (nat_lt count 8) (are_digits counts) digits in
-    (ltb-true count 8 parts.0, digits_small counts parts.1)
 
 -- what the number of a note tells: it is below 20480, how many counts there are, and each of them as a digit
 abbrev Tells : List ℕ → ℕ → Type 0
@@ -54,34 +36,21 @@ Tells counts n = (n < 20480) × (n / 4096 ≡ length counts) × (n % 8 ≡ get_o
     × (n / 8 % 8 ≡ get_or counts 1 0) × (n / 64 % 8 ≡ get_or counts 2 0) × (n / 512 % 8 ≡ get_or counts 3 0)
 
 number_tells : (counts : List ℕ) → is_short counts ≡ true → Tells counts (note_number counts)
-number_tells counts h = go counts (short_parts counts h).0 (digits_small counts (short_parts counts h).1)
-  where
-    go : (counts : List ℕ) → length counts ≤ 4 → AllByRecursion (λ count. count < 8) counts
-        → Tells counts (note_number counts)
-    go [] bounded small = (omega arith, omega arith, omega arith, omega arith, omega arith, omega arith)
-    go (a ∷ []) bounded small = (omega arith, omega arith, omega arith, omega arith, omega arith, omega arith)
-    go (a ∷ b ∷ []) bounded small = (omega arith, omega arith, omega arith, omega arith, omega arith, omega arith)
-    go (a ∷ b ∷ c ∷ []) bounded small =
-        (omega arith, omega arith, omega arith, omega arith, omega arith, omega arith)
-    go (a ∷ b ∷ c ∷ d ∷ []) bounded small =
-        (omega arith, omega arith, omega arith, omega arith, omega arith, omega arith)
-    go (a ∷ b ∷ c ∷ d ∷ e ∷ counts) bounded small = absurd (omega arith)
+number_tells [] h = omega arith
+number_tells (a ∷ []) h = grind (arith, nat_tests)
+number_tells (a ∷ b ∷ []) h = grind (arith, nat_tests)
+number_tells (a ∷ b ∷ c ∷ []) h = grind (arith, nat_tests)
+number_tells (a ∷ b ∷ c ∷ d ∷ []) h = grind (arith, nat_tests)
+number_tells (a ∷ b ∷ c ∷ d ∷ e ∷ counts) h = grind (arith, nat_tests)
 
 pub counts_of_number : (counts : List ℕ) → is_short counts ≡ true → counts_in (note_number counts) ≡ counts
 unfolding counts_in
-counts_of_number counts h =
-    let t = number_tells counts h in
-    rw (t.1, t.2, t.3, t.4, t.5) (go counts (short_parts counts h).0)
-  where
-    go : (counts : List ℕ) → length counts ≤ 4
-        → take (length counts) (get_or counts 0 0 ∷ get_or counts 1 0 ∷ get_or counts 2 0 ∷ get_or counts 3 0 ∷ [])
-        ≡ counts
-    go [] bounded = refl
-    go (a ∷ []) bounded = refl
-    go (a ∷ b ∷ []) bounded = refl
-    go (a ∷ b ∷ c ∷ []) bounded = refl
-    go (a ∷ b ∷ c ∷ d ∷ []) bounded = refl
-    go (a ∷ b ∷ c ∷ d ∷ e ∷ counts) bounded = absurd (omega arith)
+counts_of_number [] h = refl
+counts_of_number (a ∷ []) h = grind (arith, nat_tests)
+counts_of_number (a ∷ b ∷ []) h = grind (arith, nat_tests)
+counts_of_number (a ∷ b ∷ c ∷ []) h = grind (arith, nat_tests)
+counts_of_number (a ∷ b ∷ c ∷ d ∷ []) h = grind (arith, nat_tests)
+counts_of_number (a ∷ b ∷ c ∷ d ∷ e ∷ counts) h = grind (arith, nat_tests)
 
 -- a number with no digit behind its k counts is that of its counts
 pub number_of_counts : (n k : ℕ) → n / 4096 ≡ k → n < 20480 → n % 4096 / 2 ^ (3 * k) ≡ 0

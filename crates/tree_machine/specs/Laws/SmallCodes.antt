@@ -1,10 +1,7 @@
 -- Numbers that are one byte each.
-use Rattle.std.proofs.Common.{◌≡◌, ℕ, ◌<◌, ◌/◌, ◌%◌, [], ◌∷◌, arith}
+use Rattle.std.proofs.Common.{◌≡◌, ℕ, ◌<◌, [], ◌∷◌, arith}
 use Rattle.tree_machine.specs.Flat.{number_code}
 
 -- a number below 255 is one byte
 pub small_code : (n : ℕ) → n < 255 → number_code n ≡ n ∷ []
-small_code n bounded =
-    let none : n / 255 ≡ 0 = omega arith in
-    let rest : n % 255 ≡ n = omega arith in
-    rw (none, rest)
+small_code n bounded = grind arith

@@ -1,29 +1,19 @@
 -- Pairs that are equal are lawful, and what they pair is equal.
-use Rattle.std.specs.Prelude.{◌≡◌, List, [], ◌∷◌, Option, Some, None, refl, ◌↔◌}
+use Rattle.std.specs.Prelude.{◌≡◌, List, [], ◌∷◌, Option, refl, ◌↔◌}
 use Rattle.std.specs.List.{AllZip}
-use Rattle.std.proofs.Common.{subst, sym, ap}
-use Rattle.tree_machine.specs.Pairing.{AreOutcomesPaired, AreHeldPaired, AreAlike, ArePairsLawful}
+use Rattle.std.proofs.Common.{arith, subst, sym}
+use Rattle.tree_machine.specs.Pairing.{AreHeldPaired, AreAlike, ArePairsLawful}
 use Rattle.tree_machine.specs.Unnumbered.{equal_pairs}
 use Rattle.tree_machine.specs.declared.machine.Outcome.{Outcome}
-use Rattle.tree_machine.specs.declared.machine.Outcome.TheVariants.{Goes, Replies, Astray}
 
 module _ {Place : Type 0} where
-  same_outcome : (outcome : Outcome Place) → AreOutcomesPaired ◌≡◌ outcome outcome
-  same_outcome (Goes place) = refl
-  same_outcome (Replies reply) = refl
-  same_outcome Astray = tt
-
   held_paired : (held : List (Option Place)) → AllZip (AreHeldPaired ◌≡◌) held held
   held_paired [] = tt
-  held_paired (None ∷ held) = (tt, held_paired held)
-  held_paired (Some place ∷ held) = (refl, held_paired held)
+  held_paired (place ∷ held) = grind (arith, held_paired held)
 
-  held_same : (held twins : List (Option Place)) → AllZip (AreHeldPaired ◌≡◌) held twins
-      → held ≡ twins
+  held_same : (held twins : List (Option Place)) → AllZip (AreHeldPaired ◌≡◌) held twins → held ≡ twins
   held_same [] [] h = refl
-  held_same (None ∷ held) (None ∷ twins) h = ap (λ rest. None ∷ rest) (held_same held twins h.1)
-  held_same (Some place ∷ held) (Some twin ∷ twins) h = cc (h.0, held_same held twins h.1)
-  held_same (_ ∷ held) (_ ∷ twins) h = absurd h.0
+  held_same (place ∷ held) (twin ∷ twins) h = grind (arith, held_same held twins h.1)
   held_same _ _ h = absurd h
 
 module _ {Memory Place : Type 0} where
@@ -38,7 +28,7 @@ module _ {Memory Place : Type 0} where
       then = p;
       extends = record { nodes = λ _ _ h. h; records = λ _ _ h. h };
       memories_paired = λ i. (act op (at i) (same i)).0;
-      outcomes_paired = subst (AreOutcomesPaired ◌≡◌ _) (λ i. (act op (at i) (same i)).1) (same_outcome _);
+      outcomes_paired = grind arith;
     };
   }
 
@@ -46,10 +36,6 @@ module _ {Memory Place : Type 0} where
   pub equal_alike : (memory other : Memory) (held twins : List (Option Place))
       → ((memory ≡ other) × (held ≡ twins)) ↔ AreAlike equal_pairs memory held other twins
   equal_alike memory other held twins = (
-    (λ same. (
-      record { nodes = []; records = [] },
-      same.0,
-      subst (AllZip (AreHeldPaired ◌≡◌) held) same.1 (held_paired held),
-    )),
+    (λ same. (record { nodes = []; records = [] }, same.0, rw same.1 (held_paired twins))),
     (λ alike. (alike.1, held_same held twins alike.2)),
   )
