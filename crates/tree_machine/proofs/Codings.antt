@@ -74,13 +74,12 @@ renamed_kept p e f h g =
     λ i. record { facts = p.facts; nodes = names_kept e p.nodes h i; records = names_kept f p.records g i }
 
 -- numbers stay, whatever is visited
-pub nodes_extend : (c : Coding) (ps : List Part) → Extends c.nodes (with_parts c ps).nodes
-nodes_extend c [] = extends_itself c.nodes
-nodes_extend c (p ∷ ps) = extends_more (met_all_extends p.nodes c.nodes) (nodes_extend (with_part c p) ps)
-
-pub records_extend : (c : Coding) (ps : List Part) → Extends c.records (with_parts c ps).records
-records_extend c [] = extends_itself c.records
-records_extend c (p ∷ ps) = extends_more (met_all_extends p.records c.records) (records_extend (with_part c p) ps)
+pub numbers_extend : (c : Coding) (ps : List Part) → Extends c.nodes (with_parts c ps).nodes
+    × Extends c.records (with_parts c ps).records
+numbers_extend c [] = (extends_itself c.nodes, extends_itself c.records)
+numbers_extend c (p ∷ ps) =
+    let more = numbers_extend (with_part c p) ps in
+    (extends_more (met_all_extends p.nodes c.nodes) more.0, extends_more (met_all_extends p.records c.records) more.1)
 
 -- ---- parts in bytes
 
@@ -100,10 +99,10 @@ pub parts_written : (c : Coding) (ps : List Part) (nodes records : List ℕ) →
     → coded_parts c ps ≡ part_codes (map (renamed_part nodes records) ps)
 parts_written c [] nodes records e f = refl
 parts_written c (p ∷ ps) nodes records e f =
-    let then = with_part c p in
-    let here = renamed_kept p (extends_more (nodes_extend then ps) e) (extends_more (records_extend then ps) f)
-    (met_all_has p.nodes c.nodes) (met_all_has p.records c.records) in
-    λ i. cell_code (part_content (sym here i)) ++ parts_written then ps nodes records e f i
+    let more = numbers_extend (with_part c p) ps in
+    let here = renamed_kept p (extends_more more.0 e) (extends_more more.1 f) (met_all_has p.nodes c.nodes)
+    (met_all_has p.records c.records) in
+    λ i. cell_code (part_content (sym here i)) ++ parts_written (with_part c p) ps nodes records e f i
 
 -- ---- names that are numbered and written one behind the other
 

@@ -40,8 +40,7 @@ paired_as T S xs ys x y r to h =
 
 module _ {A : Type 0} (P : ℕ → ℕ → Type 0) (xs ys : List A) (x y : ℕ) (a b : A) where
   pub within_set : AreWithin P xs ys → AreWithin P (slice_set xs x a) (slice_set ys y b)
-  within_set within v w p =
-      let r = within v w p in (omega (arith, length-set xs x a), omega (arith, length-set ys y b))
+  within_set within v w p = simp length-set (within v w p)
 
   pub paired_set : (T : Option A → Option A → Type 0) → IsOneToOne P → AreWithin P xs ys → P x y → T (Some a) (Some b)
       → AreValuesPaired P T xs ys → AreValuesPaired P T (slice_set xs x a) (slice_set ys y b)
@@ -70,18 +69,16 @@ module _ {A : Type 0} (pairs : List (ℕ × ℕ)) (xs ys : List A) (within : Are
 
   pub fresh_one : IsOneToOne (IsAmong pairs) → IsOneToOne Fresh
   fresh_one one x y v w (inl e) (inl f) = (λ d. sym e.1 ∙ f.1, λ d. sym e.0 ∙ f.0)
-  fresh_one one x y v w (inl e) (inr q) = let r = within v w q in let c = e.0 in
-      let d = e.1 in (λ k. absurd (omega arith), λ k. absurd (omega arith))
-  fresh_one one x y v w (inr p) (inl e) = let r = within x y p in let c = e.0 in
-      let d = e.1 in (λ k. absurd (omega arith), λ k. absurd (omega arith))
+  fresh_one one x y v w (inl e) (inr q) =
+      let r = within v w q in (λ k. absurd (omega arith), λ k. absurd (omega arith))
+  fresh_one one x y v w (inr p) (inl e) =
+      let r = within x y p in (λ k. absurd (omega arith), λ k. absurd (omega arith))
   fresh_one one x y v w (inr p) (inr q) = one x y v w p q
 
   module _ (a b : A) where
     pub fresh_within : AreWithin Fresh (xs ++ a ∷ []) (ys ++ b ∷ [])
-    fresh_within x y (inl e) = let c = e.0 in
-        let d = e.1 in (omega (arith, length-append xs (a ∷ [])), omega (arith, length-append ys (b ∷ [])))
-    fresh_within x y (inr p) = let r = within x y p in
-        (omega (arith, length-append xs (a ∷ [])), omega (arith, length-append ys (b ∷ [])))
+    fresh_within x y (inl e) = simp length-append (omega arith, omega arith)
+    fresh_within x y (inr p) = let r = within x y p in simp length-append (omega arith, omega arith)
 
     pub fresh_paired : (T : Option A → Option A → Type 0) → T (Some a) (Some b)
         → AreValuesPaired (IsAmong pairs) T xs ys → AreValuesPaired Fresh T (xs ++ a ∷ []) (ys ++ b ∷ [])

@@ -83,13 +83,9 @@ module _ (n r : ℕ) (nodes records : List ℕ) (below : All (λ x. x < n) nodes
       at (records_first n r nodes records [] (recursion_from_All _ _ below) (recursion_from_All _ _ h))
 
 -- what is met later comes behind
-pub nodes_extend : {xs ys : List ℕ} (n : ℕ) → Extends xs ys → Extends (nodes_met n xs) (nodes_met n ys)
-nodes_extend {xs} n e =
-    record { rest = nodes_met n e.rest; is = ap (nodes_met n) e.is ∙ nodes_append n xs e.rest }
-
-pub records_extend : {xs ys : List ℕ} (n r : ℕ) → Extends xs ys → Extends (records_met n r xs) (records_met n r ys)
-records_extend {xs} n r e =
-    record { rest = records_met n r e.rest; is = ap (records_met n r) e.is ∙ records_append n r xs e.rest }
+pub extends_by : {xs ys : List ℕ} (keep : List ℕ → List ℕ)
+    → ((old new : List ℕ) → keep (old ++ new) ≡ keep old ++ keep new) → Extends xs ys → Extends (keep xs) (keep ys)
+extends_by {xs} keep append e = record { rest = keep e.rest; is = ap keep e.is ∙ append xs e.rest }
 
 -- ---- what a part names
 

@@ -221,3 +221,8 @@ module _ (n : Numbering) where
         let next : place + 1 ≡ suc (length order) = omega (arith, is_length) in
         simp (is, next, map-set)
         (places_push order (map referred_to numbers) x n.has_numbers (within known) unmet)
+
+-- the places of a cell that is met, and what a cell is that gets a number
+pub ruleset placed = (place_absent, met_present, met_new, place_seen, place_new)
+
+pub ruleset assigned = (order_room, unmet, met_new)

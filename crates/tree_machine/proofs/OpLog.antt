@@ -86,12 +86,6 @@ module _ {Machine Memory Place Form : Type 0} (rules : Rules Memory Place) (prog
 
 -- ---- a step that is taken back
 
--- an element restored where another one had replaced it
-set_back : {X : Type 0} (xs : List X) (i : ℕ) (v x : X) → slice_get xs i ≡ Some v
-    → slice_set (slice_set xs i x) i v ≡ xs
-set_back xs i v x h =
-    rw (set-set xs i x v, ← get_or_from_slice_get xs i v v h) (set-get_or xs i v)
-
 module _ {Machine Memory Place Form : Type 0} where
   -- a state whose step is undone in its memory, its threads and its count
   pub taken_back : (rules : Rules Memory Place) (program : Program) (source next : State Machine Memory Place Form)
@@ -105,6 +99,7 @@ module _ {Machine Memory Place Form : Type 0} where
       let acted = rules.act op (place_or there.place (rules.first op)) source.memory in
       let parts = access_parts source t (at_step rules source op there) acted in
       let restored : threads ≡ source.threads =
-      rw (set, is, parts.2) (set_back source.threads t thread parts.0 was) in
+      rw (set, is, parts.2, set-set, ← get_or_from_slice_get source.threads t thread thread was)
+      (set-get_or source.threads t thread) in
       let steps : next.steps - 1 ≡ source.steps = rw (is, parts.5) (omega arith) in
       rw (m, restored, steps, ← source_not_astray rules program source next t made) refl)

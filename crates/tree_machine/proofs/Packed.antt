@@ -8,7 +8,9 @@ use Rattle.std.proofs.lemmas.Cmp.{lists_equiv, nat_eq_equiv}
 use Rattle.std.proofs.lemmas.List.{get_or_past}
 use Rattle.std.proofs.lemmas.Nat.{shl_whole}
 use Rattle.sched_program.specs.Laws.Exact.{bool_exact, nat_exact, list_exact}
-use Rattle.tree_machine.specs.FormCode.{note_code}
+use Rattle.tree_machine.specs.Flat.{number_code}
+use Rattle.tree_machine.specs.FormCode.{note_code, replies_code}
+use Rattle.tree_machine.specs.Laws.SmallCodes.{small_code}
 use Rattle.tree_machine.specs.Laws.Packed.{replies_back}
 use Rattle.tree_machine.specs.Laws.ShortNotes.{counts_short, counts_of_number, counts_at, digits_more}
 use Rattle.tree_machine.specs.Laws.ShortNotes.{length_of_number, number_below, one_count_more, short_of, short_parts}
@@ -33,6 +35,11 @@ replies_same n m n_least n_below m_least m_below =
 pub notes_same : (n m : ℕ) → note_number (counts_in n) ≡ n → note_number (counts_in m) ≡ m
     → nat_eq n m ≡ pointwise nat_eq (counts_in n) (counts_in m)
 notes_same = read_same nat_eq (lists_equiv nat_eq_equiv).refl (list_exact nat_exact) counts_in note_number
+
+-- the byte of a number is the code of its replies
+pub code_of_replies : (n : ℕ) → 0 < n → n < 128 → replies_code (replies_in n) ≡ n ∷ []
+unfolding replies_code
+code_of_replies n least below = ap number_code (replies_back n least below) ∙ small_code n (omega arith)
 
 -- the two bytes of a number are the code of its note
 pub code_of_number : (n : ℕ) → note_number (counts_in n) ≡ n → note_code (counts_in n) ≡ n / 256 ∷ n % 256 ∷ []
@@ -91,3 +98,6 @@ module _ {n : ℕ} {counts : List ℕ} (whole : note_number (counts_in n) ≡ n)
 
     pub longer_whole : note_number (counts_in longer) ≡ longer
     longer_whole = ap note_number count_pushed ∙ sym longer_is
+
+-- what a note is to which a count is added
+pub ruleset note_push = (count_pushed, longer_below, longer_whole)

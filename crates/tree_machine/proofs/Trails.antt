@@ -12,6 +12,7 @@ use Rattle.std.proofs.lemmas.List.Elements.{filter-append, All-append, recursion
 use Rattle.std.proofs.lemmas.Option.{slice_get_past, slice_get_within, get_or_from_slice_get}
 use Rattle.std.proofs.Math.Seq.{drop-append-add, take-append_seam}
 use Rattle.std.proofs.Math.Bool.{or-true}
+use Rattle.std.proofs.lemmas.Bool.{cases_lt}
 use Rattle.tree_machine.specs.Canonical.{nodes_met, records_met, renamed_part, canonical_parts, canonical_front}
 use Rattle.tree_machine.specs.Canonical.{front_nodes, front_order, front_records}
 use Rattle.tree_machine.specs.Cells.{Content, content_at, met_all, met_in, order_of, IsRooted}
@@ -33,7 +34,7 @@ use Rattle.tree_machine.specs.Laws.PartsBy.{IsPartMet}
 use Rattle.tree_machine.proofs.Codings.{renamed_kept, codes_append}
 use Rattle.tree_machine.proofs.Lists.{get-append_right}
 use Rattle.tree_machine.proofs.NamesMet.{new_cells, part_met, nodes_append, records_append, nodes_of, records_of}
-use Rattle.tree_machine.proofs.VisitedParts.{part_below}
+use Rattle.tree_machine.proofs.VisitedParts.{part_within}
 use Rattle.tree_machine.proofs.Walks.{met_in_done, met_in_next}
 
 -- ---- the order that a walk comes to
@@ -148,37 +149,33 @@ module _ {s : Parts} {roots before : List ℕ} {k : ℕ} {front apart : List ℕ
         → (x < c.nodes_below → IsVisited (part_at s.nodes x) c bytes d put × (then ≡ out))
         → (c.nodes_below ≤ x → IsVisited (part_at s.records (x - c.nodes_below)) c out d then × (put ≡ bytes))
         → IsTrail s roots before (k + 1) front apart d put then
-    trail_next d put then node rest = go (grind arith)
-      where
-        n : ℕ
-        n = length s.nodes
-
-        go : (x < c.nodes_below) ⊎ (c.nodes_below ≤ x) → IsTrail s roots before (k + 1) front apart d put then
-        go (inl l) =
-            let p = part_at s.nodes x in
-            let within : x < n = omega (arith, t.walk.nodes_below) in
-            let e = node l in
-            rw (e.0.1, e.1, e.0.0)
-            (then_trail p (bytes ++ coded_by (with_part c p) p) out (node_at s x within)
-            (part_below s.nodes x refl refl h.nodes)
-            (λ end code. rw (test_node n x within, test_before n (length s.records) x within)
-            (ap (λ l. bytes ++ l) code, sym (append-nil out))))
-        go (inr l) =
-            let p = part_at s.records (x - n) in
-            let e = subst (λ b. IsVisited (part_at s.records (x - b)) c out d then × (put ≡ bytes))
-            t.walk.nodes_below (rest l) in
-            let behind : n ≤ x = omega (arith, t.walk.nodes_below) in
-            let below : x < n + length s.records =
-            all_has (λ x. x < n + length s.records) c.queue (recursion_from_All _ c.queue t.walk.graph) x
-            (has_at c.queue k x at) in
-            let y : n + (x - n) ≡ x = omega arith in
-            rw (e.0.1, e.1, e.0.0)
-            (then_trail p bytes (out ++ coded_by (with_part c p) p)
-            (subst (λ x. content_at (parts_graph s ++ parts_held s) x ≡ part_cell n p) y
-            (record_at s (x - n) (omega arith)))
-            (part_below s.records (x - n) refl refl h.records)
-            (λ end code. rw (test_other n x behind, test_record n (length s.records) x behind below)
-            (sym (append-nil bytes), ap (λ l. out ++ l) code)))
+    trail_next d put then node rest =
+        let n = length s.nodes in
+        elim (cases_lt x c.nodes_below) [
+          | inl l ↦
+              let p = part_at s.nodes x in
+              let within : x < n = omega (arith, t.walk.nodes_below) in
+              let e = node l in
+              rw (e.0.1, e.1, e.0.0)
+              (then_trail p (bytes ++ coded_by (with_part c p) p) out (node_at s x within)
+              (part_within s.nodes x (omega arith) (omega arith) h.nodes)
+              (λ end code. rw (test_node n x within, test_before n (length s.records) x within)
+              (ap (λ l. bytes ++ l) code, sym (append-nil out))))
+          | inr l ↦
+              let p = part_at s.records (x - n) in
+              let e = subst (λ b. IsVisited (part_at s.records (x - b)) c out d then × (put ≡ bytes))
+              t.walk.nodes_below (rest l) in
+              let behind : n ≤ x = omega (arith, t.walk.nodes_below) in
+              let below : x < n + length s.records =
+              all_has (λ x. x < n + length s.records) c.queue (recursion_from_All _ c.queue t.walk.graph) x
+              (has_at c.queue k x at) in
+              let y : n + (x - n) ≡ x = omega arith in
+              rw (e.0.1, e.1, e.0.0)
+              (then_trail p bytes (out ++ coded_by (with_part c p) p) (rw y at (record_at s (x - n) (omega arith)))
+              (part_within s.records (x - n) (omega arith) (omega arith) h.records)
+              (λ end code. rw (test_other n x behind, test_record n (length s.records) x behind below)
+              (sym (append-nil bytes), ap (λ l. out ++ l) code)))
+        ]
 
   module _ (rooted : IsRooted (parts_graph s ++ parts_held s) roots) where
     -- after a visit for each cell the queue is visited

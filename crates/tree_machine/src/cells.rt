@@ -56,6 +56,7 @@ impl Order {
 
     /// Meets a cell, and returns its place.
     #[inline(always)]
+    #[tactic(auto, using(crate::proofs::Numbers::placed))]
     fn assign(&mut self, cell: usize) -> Result<usize, OutOfMemory>
         requires { cell < length self.old.numbers.items }
         ensures order { OnOk result (self.new.order.items ≡ met self.old.order.items cell) }

@@ -2,7 +2,7 @@
 use Rattle.std.proofs.Common.{refl, ◌∙◌, ap, sym, rules, Some}
 use Rattle.std.proofs.lemmas.Option.{IfSome_then}
 use Rattle.tree_machine.specs.Step.{stepped}
-use Rattle.tree_machine.proofs.States.{held_or, step_made, with_held, ready_pieces, thread_read, thread_within}
+use Rattle.tree_machine.proofs.States.{held_or, step_made, with_held, ready_pieces, thread_read}
 use Rattle.tree_machine.proofs.States.{next_place_in_range, reply_room, note_room}
 use Rattle.tree_machine.proofs.state.State.make_step.Goals as goal
 
@@ -16,17 +16,6 @@ act-requires-clause-place_in_range g c =
     ∙ thread_read program state c.args.t access.1 _ c.as_mut_vec-threads.ensures.value c.from-at.ensures in
     rw (held_or _ _ _ c.take.ensures.value there c.place_or-place.ensures c.begin-first.ensures)
     (next_place_in_range program state c.args.t access.1 _ access.0 (bound.lawful c.args.machine))
-
-pub bounds-threads-at : goal.bounds-threads-at
-bounds-threads-at g c =
-    thread_within c.requires.ready.0 c.args.self.now c.args.t c.requires.ready.2.1.1 c.as_slice-threads.ensures
-    c.from-at.ensures
-
-pub index_mut-moved-requires : goal.index_mut-moved-requires
-index_mut-moved-requires g c =
-    let within = thread_within c.requires.ready.0 c.args.self.now c.args.t c.requires.ready.2.1.1
-    c.as_mut_vec-threads.ensures.value c.from-at.ensures in
-    search (rules, within)
 
 pub advance-requires-clause-reply_room : goal.advance-requires-clause-reply_room
 advance-requires-clause-reply_room g c κs within =
