@@ -1,7 +1,6 @@
 -- Alike states: the same threads of theirs have steps, their steps are alike, and so are their findings.
 use Rattle.std.proofs.Common.{◌≡◌, ℕ, List, [], ◌∷◌, ◌++◌, length, Bool, Option, Some, None, is_some, refl, sym, ap}
-use Rattle.std.proofs.Common.{◌∙◌, slice_get, ◌↔◌, zero, suc, if◌then◌else◌, true, false, option_and_then, slice_set}
-use Rattle.std.specs.Prelude.{IsTrue, IsSomeAnd}
+use Rattle.std.proofs.Common.{◌∙◌, slice_get, ◌↔◌, zero, suc, option_and_then, slice_set, IsTrue, IsSomeAnd}
 use Rattle.std.specs.List.{AllZip}
 use Rattle.std.specs.Option.{option_map}
 use Rattle.sched_program.specs.Program.{Program}

@@ -17,6 +17,7 @@ use Rattle.tree_machine.specs.Flat.{reference_number}
 use Rattle.tree_machine.specs.Parts.{Part}
 use Rattle.tree_machine.specs.Laws.CellOrder.{Extends, Has, HasAll, extends_itself, extends_more, met_all_extends}
 use Rattle.tree_machine.specs.Laws.CellOrder.{met_all_has}
+use Rattle.tree_machine.specs.Laws.Graphs.{numbers_more}
 
 -- ---- what is met
 
@@ -181,3 +182,6 @@ part_visited bytes old view facts ns rs stack fe em ek ef {then} {second = secon
       rw (← view, d.queued, a.queued, ef, em, ek, a.order, d.order) (simp (zero-add, map-id)),
       rw (← part_written then second p, d.written, a.written, fe, named) (simp append_assoc),
     )
+
+-- numbers in a row
+pub ruleset numbered_in_row = (numbers_more, zero-add, append_assoc)

@@ -1,8 +1,7 @@
 -- A walk from what the threads hold, behind a front: they are written, and what only they lead to is left.
 use Rattle.std.proofs.Common.{◌≡◌, ℕ, suc, ◌+◌, ◌<◌, List, [], ◌∷◌, ◌++◌, map, length, take, drop, refl, sym, ◌∙◌, ap}
-use Rattle.std.proofs.Common.{arith, append_assoc, append-nil, length-append, add-zero, zero, ◌≤◌, subst, inl, inr}
-use Rattle.std.proofs.Common.{add-one, ◌-◌, Bool, false}
-use Rattle.std.specs.Prelude.{slice_get, Some, None, Result, Ok, Err, OnOk, Option}
+use Rattle.std.proofs.Common.{arith, append_assoc, append-nil, length-append, add-zero, zero, ◌≤◌, inl, inr, add-one}
+use Rattle.std.proofs.Common.{◌-◌, Bool, false, ◌⊎◌, slice_get, Some, None, Result, Ok, Err, OnOk, Option, length-take}
 use Rattle.std.proofs.Math.Seq.{drop-append_seam, take-append_seam, drop-length}
 use Rattle.std.proofs.lemmas.List.{length-map, map-append, nil_from_length}
 use Rattle.std.proofs.lemmas.List.Elements.{All-nil, recursion_from_All}
@@ -35,6 +34,11 @@ use Rattle.tree_machine.proofs.VisitedParts.{part_within}
 pub ok_both : {T E P Q R : Type 0} (r : Result T E) → (P → Q → R) → OnOk r P → OnOk r Q → OnOk r R
 ok_both (Ok x) f p q = f p q
 ok_both (Err e) f p q = tt
+
+-- the lesser of a front and of all parts is how many parts the front takes
+pub taken : {f r a b : ℕ} (ps : List Part) → (r ≤ a) × (r ≤ b) → (r ≡ a) ⊎ (r ≡ b) → a ≡ f → b ≡ length ps
+    → r ≡ length (take f ps)
+taken {f} ps least one front all = grind (arith, length-take f ps)
 
 -- a coder that has numbered the front
 pub record HasFront (fixed : ℕ) (s : Parts) (c : Coding) : Type 0 where

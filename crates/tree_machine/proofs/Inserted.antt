@@ -1,8 +1,7 @@
 -- A key is inserted into a list of nodes: behind them come a leaf for the key and an internal node over it, which takes
 -- the place of the leaf where the search for the key ends.
-use Rattle.std.proofs.Common.{arith, sym, ◌∙◌, ap, ◌⊎◌, inl, inr}
-use Rattle.std.specs.Prelude.{◌≡◌, ◌≢◌, ℕ, ◌+◌, ◌<◌, ◌≤◌, min, max, if◌then◌else◌, nat_lt, List, ◌++◌, length, refl}
-use Rattle.std.specs.Prelude.{Option, Some, unwrap_or, slice_get, slice_set}
+use Rattle.std.proofs.Common.{arith, sym, ◌∙◌, ap, ◌⊎◌, inl, inr, ◌≡◌, ◌≢◌, ℕ, ◌+◌, ◌<◌, ◌≤◌, min, max, if◌then◌else◌}
+use Rattle.std.proofs.Common.{nat_lt, List, ◌++◌, length, refl, Option, Some, unwrap_or, slice_get, slice_set}
 use Rattle.std.specs.Option.{option_map}
 use Rattle.std.proofs.lemmas.Bool.{cases_lt}
 use Rattle.std.proofs.lemmas.Option.{slice_get_within}

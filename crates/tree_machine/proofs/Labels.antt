@@ -1,12 +1,10 @@
 -- Labels, what is copied from the bytes of a state by their offsets, and states that were read from labels.
-use Rattle.std.proofs.Common.{◌≡◌, ◌≤◌, ℕ, List, ◌∷◌, ◌++◌, length, map, take, refl, ◌+◌, ◌-◌, Bool, true, false, []}
+use Rattle.std.proofs.Common.{◌≡◌, ◌≤◌, ℕ, List, ◌++◌, length, take, refl, ◌+◌, ◌-◌, Bool, true, false, []}
 use Rattle.std.proofs.Common.{drop, Option, sym, ap, ◌∙◌, arith, append_assoc, if◌then◌else◌, length-append}
-use Rattle.std.specs.List.{flat_map}
-use Rattle.std.proofs.lemmas.List.{length-map, take_all, append-nil}
-use Rattle.std.proofs.lemmas.List.Folds.{flat_map-map}
+use Rattle.std.proofs.lemmas.List.{length-map, append-nil}
 use Rattle.std.specs.Prelude.{IsTrue}
 use Rattle.std.proofs.Math.Seq.{drop-append_seam, take-append_seam}
-use Rattle.tree_machine.specs.FormCode.{list_code, cut_code, op_log_code, label_code, content_code, state_code}
+use Rattle.tree_machine.specs.FormCode.{cut_code, op_log_code, label_code, content_code, state_code}
 use Rattle.tree_machine.specs.Alike.{notes_of, places_of, replies_of, FormContent}
 use Rattle.tree_machine.specs.Offsets.{AreOffsetsOf, op_log_of, IsReadFrom}
 use Rattle.tree_machine.specs.Flat.{number_code}
@@ -18,18 +16,10 @@ use Rattle.tree_machine.specs.declared.naming.Naming.{Naming}
 use Rattle.tree_machine.specs.declared.naming.Naming.TheVariants.{Own, Canonical}
 use Rattle.tree_machine.specs.declared.state.State.{State}
 use Rattle.tree_machine.specs.InRange.{AreNumbersInRange}
+use Rattle.tree_machine.proofs.Forms.{held_in_range}
 use Rattle.tree_machine.specs.Rules.{Rules}
 use Rattle.tree_machine.specs.Laws.Flat.{number_split}
 use Rattle.tree_machine.specs.Laws.FormCode.{content_readable}
-
--- a field of each of several values
-module _ {A B : Type 0} (code : B → List ℕ) (of : A → B) where
-  -- how many values there are, and the field of each, are the list of the fields
-  pub fields_coded : (xs : List A) {i : ℕ} (before : List ℕ) {after : List ℕ}
-      → after ≡ before ++ length xs ∷ flat_map (λ x. code (of x)) (take i xs) → length xs ≤ i
-      → after ≡ before ++ list_code code (map of xs)
-  fields_coded xs {i} before put within =
-      rw (put, take_all i xs within, length-map xs of, flat_map-map code of xs) refl
 
 -- what is between two places of a list in three pieces
 piece_between : {X : Type 0} (a b c : List X) {xs : List X} {from to : ℕ} → xs ≡ a ++ (b ++ c) → from ≡ length a
@@ -149,3 +139,6 @@ module _ {Machine Memory Place Form : Type 0} (naming : Naming) (own_code : Memo
         many = simp length-map (simp length-map at replies);
         same = ap (λ m. cut m (places_of source.threads)) same ∙ ap (λ (c : FormContent (List ℕ)). c.form) stated;
       }
+
+-- a label, and the places in it
+pub ruleset label_pieces = (held_in_range, label_put)

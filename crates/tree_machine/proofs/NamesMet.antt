@@ -1,12 +1,11 @@
 -- Names of nodes and of records that a walk meets: what is new among them comes behind what was met.
 use Rattle.std.proofs.Common.{refl, ◌≡◌, ℕ, ◌+◌, ◌<◌, true, false, cond, List, [], ◌∷◌, ◌++◌, map, sym, ◌∙◌, ap, arith}
-use Rattle.std.proofs.Common.{append_assoc, append-nil}
-use Rattle.std.specs.Prelude.{Option, Some, None, nat_eq, nat_lt}
+use Rattle.std.proofs.Common.{append_assoc, append-nil, Option, Some, None, nat_eq, nat_lt, map-id}
 use Rattle.std.specs.List.{All, list_any}
 use Rattle.std.specs.Option.{option_map}
 use Rattle.std.proofs.Math.Seq.{drop-append_seam}
 use Rattle.std.proofs.lemmas.Iterator.Adapters.{option_map_id}
-use Rattle.std.proofs.lemmas.List.{map-append, map-id}
+use Rattle.std.proofs.lemmas.List.{map-append}
 use Rattle.std.proofs.lemmas.List.Elements.{All-append, All-cons, All-map, All-nil, All-weaker, filter-append}
 use Rattle.std.proofs.lemmas.List.Elements.{recursion_from_All}
 use Rattle.std.proofs.lemmas.List.Folds.{list_any-append}
@@ -102,25 +101,24 @@ pub record IsPartMet (n r : ℕ) (p : Part) (m : List ℕ) : Type 0 where
 
 -- that is what the names of a part do that names what there is
 pub part_met : (n r : ℕ) (p : Part) (m : List ℕ) → IsPartBelow n r p → IsPartMet n r p m
-part_met n r p m h =
-    record {
-      cells =
-          met_all_append m p.nodes raised ∙ ap (λ o. met_all o raised) nodes_first ∙ others.1
-          ∙ append_assoc m new (map (λ x. n + x) more);
-      nodes =
-          cc (met_newly (nodes_met n m) p.nodes, nodes_of n r new more nodes.0, nodes_append n m (as_cells n new more));
-      records =
-          cc (
-            met_newly (records_met n r m) p.records,
-            records_of n r new more nodes.0 others.0,
-            records_append n r m (as_cells n new more),
-          );
-      below =
-          All-append (λ x. x < n + r) new (map (λ x. n + x) more)
-          (All-weaker (λ x. x < n) (λ x. x < n + r) (λ x l. omega arith) new nodes.0)
-          (All-map (λ x. x < n + r) (λ x. n + x) more
-          (All-weaker (λ x. x < r) (λ x. n + x < n + r) (λ x l. omega arith) more others.0));
-    }
+part_met n r p m h = record {
+  cells =
+      met_all_append m p.nodes raised ∙ ap (λ o. met_all o raised) nodes_first ∙ others.1
+      ∙ append_assoc m new (map (λ x. n + x) more);
+  nodes =
+      cc (met_newly (nodes_met n m) p.nodes, nodes_of n r new more nodes.0, nodes_append n m (as_cells n new more));
+  records =
+      cc (
+        met_newly (records_met n r m) p.records,
+        records_of n r new more nodes.0 others.0,
+        records_append n r m (as_cells n new more),
+      );
+  below =
+      All-append (λ x. x < n + r) new (map (λ x. n + x) more)
+      (All-weaker (λ x. x < n) (λ x. x < n + r) (λ x l. omega arith) new nodes.0)
+      (All-map (λ x. x < n + r) (λ x. n + x) more
+      (All-weaker (λ x. x < r) (λ x. n + x < n + r) (λ x l. omega arith) more others.0));
+}
   where
     new : List ℕ
     new = newly (nodes_met n m) p.nodes

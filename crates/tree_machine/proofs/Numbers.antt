@@ -1,8 +1,7 @@
 -- Each cell's place as its number, and few cells met, by the numbers that refer to them.
 use Rattle.std.proofs.Common.{◌≡◌, ℕ, zero, suc, ◌+◌, ◌-◌, ◌<◌, Bool, false, true, cond, not, List, [], ◌∷◌, ◌++◌, map}
 use Rattle.std.proofs.Common.{length, refl, sym, ◌∙◌, ap, subst, inl, inr, arith, get_or, set, take, append_assoc}
-use Rattle.std.proofs.Common.{length-append, length-set}
-use Rattle.std.specs.Prelude.{slice_get, replicate, Option, Some, None, nat_eq, IfSome}
+use Rattle.std.proofs.Common.{length-append, length-set, slice_get, replicate, Option, Some, None, nat_eq, IfSome}
 use Rattle.std.specs.List.{All, IsDistinct, list_any}
 use Rattle.std.specs.Option.{option_and_then, option_map}
 use Rattle.std.proofs.Math.ListN.{get_or-map}
@@ -223,6 +222,6 @@ module _ (n : Numbering) where
         (places_push order (map referred_to numbers) x n.has_numbers (within known) unmet)
 
 -- the places of a cell that is met, and what a cell is that gets a number
-pub ruleset placed = (place_absent, met_present, met_new, place_seen, place_new)
+pub ruleset placed = (place_absent, met_present, met_new, place_seen, place_new, places_met)
 
 pub ruleset assigned = (order_room, unmet, met_new)

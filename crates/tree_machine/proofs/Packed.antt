@@ -1,7 +1,6 @@
 -- What the types of replies and notes in bytes promise.
 use Rattle.std.proofs.Common.{◌≡◌, ℕ, ◌+◌, ◌*◌, ◌/◌, ◌%◌, ◌^◌, ◌<◌, ◌≤◌, List, [], ◌∷◌, ◌++◌, length, refl, sym, ◌∙◌}
-use Rattle.std.proofs.Common.{ap, ap₂, true, zero, suc, arith, eq-eqb, eqb-true, get_or, length-append}
-use Rattle.std.specs.Prelude.{Bool, nat_eq}
+use Rattle.std.proofs.Common.{ap, ap₂, true, zero, suc, arith, eq-eqb, eqb-true, get_or, length-append, Bool, nat_eq}
 use Rattle.std.specs.Cmp.{bool_eq_equiv}
 use Rattle.std.specs.Cmp.Lexicographic.{pointwise}
 use Rattle.std.proofs.lemmas.Cmp.{lists_equiv, nat_eq_equiv}
@@ -11,8 +10,9 @@ use Rattle.sched_program.specs.Laws.Exact.{bool_exact, nat_exact, list_exact}
 use Rattle.tree_machine.specs.Flat.{number_code}
 use Rattle.tree_machine.specs.FormCode.{note_code, replies_code}
 use Rattle.tree_machine.specs.Laws.SmallCodes.{small_code}
-use Rattle.tree_machine.specs.Laws.Packed.{replies_back}
-use Rattle.tree_machine.specs.Laws.ShortNotes.{counts_short, counts_of_number, counts_at, digits_more}
+use Rattle.std.proofs.lemmas.Nat.Bits.{shr_and_one}
+use Rattle.tree_machine.specs.Laws.Packed.{replies_back, reply_at}
+use Rattle.tree_machine.specs.Laws.ShortNotes.{counts_short, counts_of_number, counts_at, digits_more, number_of_counts}
 use Rattle.tree_machine.specs.Laws.ShortNotes.{length_of_number, number_below, one_count_more, short_of, short_parts}
 use Rattle.tree_machine.specs.Laws.StateExact.{same_answer}
 use Rattle.tree_machine.specs.Packed.{counts_in, is_short, note_number, replies_in, replies_number}
@@ -101,3 +101,8 @@ module _ {n : ℕ} {counts : List ℕ} (whole : note_number (counts_in n) ≡ n)
 
 -- what a note is to which a count is added
 pub ruleset note_push = (count_pushed, longer_below, longer_whole)
+
+-- what is read
+pub ruleset note_read = (code_of_number, number_of_counts)
+
+pub ruleset reply_got = (reply_at, shr_and_one)

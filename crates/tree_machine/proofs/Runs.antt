@@ -1,16 +1,15 @@
 -- Histories: the operations of one more reply and of one more thread, and that the history of a state that fits a
 -- program is a history of that program.
-use Rattle.std.proofs.Common.{is_some, ◌≡◌, ℕ, zero, suc, ◌+◌, inl, inr, Bool, true, false, List, [], ◌∷◌, ◌++◌, length}
-use Rattle.std.proofs.Common.{map, Option, Some, IsSome, refl, sym, ap, ◌∙◌, arith, slice_get, get_or, if◌then◌else◌}
-use Rattle.std.proofs.Common.{◌<◌, take, append_assoc, length-take-le}
-use Rattle.std.proofs.lemmas.Option.{slice_get_within, slice_get-get_or, get_or_from_slice_get, same_Some}
-use Rattle.std.proofs.lemmas.Bool.{eq-eqb}
-use Rattle.std.proofs.lemmas.List.{take_more, append-nil, length-map, map-append}
+use Rattle.std.proofs.Common.{◌≡◌, ℕ, zero, suc, ◌+◌, inl, inr, Bool, true, false, List, [], ◌∷◌, ◌++◌, length, map}
+use Rattle.std.proofs.Common.{Option, Some, IsSome, refl, sym, ap, ◌∙◌, arith, slice_get, get_or, if◌then◌else◌, ◌<◌}
+use Rattle.std.proofs.Common.{take, append_assoc, length-take-le, eq-eqb, append-nil}
+use Rattle.std.proofs.lemmas.Option.{slice_get_within, get_or_from_slice_get, same_Some}
+use Rattle.std.proofs.lemmas.List.{take_more, length-map, map-append}
 use Rattle.std.proofs.lemmas.List.Elements.{All-append, All-cons, All-nil}
 use Rattle.std.specs.List.{All}
 use Rattle.sched_program.specs.declared.operation.Op.{Op}
 use Rattle.sched_program.specs.declared.operation.OpId.{OpId}
-use Rattle.sched_program.specs.Name.{same_name, value_at, IsBefore, Ascend}
+use Rattle.sched_program.specs.Name.{same_name, value_at, Ascend}
 use Rattle.sched_program.specs.History.{IsHistoryOf}
 use Rattle.sched_program.specs.Program.{Program, op_at}
 use Rattle.tree_machine.specs.History.{named, all_named}
@@ -18,7 +17,7 @@ use Rattle.tree_machine.specs.Rules.{Rules}
 use Rattle.tree_machine.specs.Step.{ThreadFits, Fits}
 use Rattle.tree_machine.specs.declared.state.Thread.{Thread}
 use Rattle.tree_machine.specs.declared.state.State.{State}
-use Rattle.tree_machine.proofs.Lists.{get-append_left, get-append_right, get-append_cases, get-map, map-get, get_at}
+use Rattle.tree_machine.proofs.Lists.{get-append_cases, get-map, map-get, get_at}
 
 module _ {A : Type 0} where
   named-push : (thread index : ℕ) (xs : List A) (x : A) (last : ℕ) → last ≡ index + length xs

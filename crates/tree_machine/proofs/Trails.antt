@@ -1,12 +1,10 @@
 -- Walks that write what they visit: a graph in bytes behind counts that were put first, and the front of canonical
 -- parts.
-use Rattle.std.proofs.Common.{◌≡◌, ℕ, zero, suc, ◌+◌, ◌-◌, ◌<◌, ◌≤◌, ◌⊎◌, List, [], ◌∷◌, ◌++◌, length, take, refl, sym}
-use Rattle.std.proofs.Common.{◌∙◌, ap, subst, inl, inr, arith, append_assoc, append-nil, length-append, add-zero}
-use Rattle.std.proofs.Common.{add-suc, map, drop, ◌||◌}
-use Rattle.std.proofs.Math.Nat.{add_comm}
-use Rattle.std.specs.Prelude.{slice_get, Some, None, nat_eq}
+use Rattle.std.proofs.Common.{◌≡◌, ℕ, zero, suc, ◌+◌, ◌-◌, ◌<◌, ◌≤◌, List, [], ◌∷◌, ◌++◌, length, take, refl, sym, ◌∙◌}
+use Rattle.std.proofs.Common.{ap, subst, inl, inr, arith, append_assoc, append-nil, length-append, add-zero, add-suc}
+use Rattle.std.proofs.Common.{map, drop, ◌||◌, add_comm, slice_get, Some, None, nat_eq, take_all}
 use Rattle.std.specs.List.{All}
-use Rattle.std.proofs.lemmas.List.{map-append, take-append-le, take_all, take_more, length-map}
+use Rattle.std.proofs.lemmas.List.{map-append, take-append-le, take_more, length-map}
 use Rattle.std.proofs.lemmas.Grind.{flat_map-append}
 use Rattle.std.proofs.lemmas.List.Elements.{filter-append, All-append, recursion_from_All, All-nil}
 use Rattle.std.proofs.lemmas.Option.{slice_get_past, slice_get_within, get_or_from_slice_get}

@@ -141,6 +141,7 @@ impl Order {
 }
 
 /// Meets the roots, and then what each cell met refers to, in the order met.
+#[tactic(auto, using(crate::proofs::Walks::walked))]
 fn walk(alloc: Global, cells: &[Cell], roots: &[usize]) -> Result<Order, OutOfMemory>
     requires { IsRooted cells.now roots.now }
     ensures order { IfOk result (λ n. n.order.items ≡ order_of cells.now roots.now) }

@@ -57,6 +57,7 @@ impl Replies {
     }
 
     /// The reply at an index, if there is one.
+    #[tactic(auto, using(crate::proofs::Packed::reply_got))]
     pub fn get(&self, index: usize) -> Option<bool>
         ensures { result ≡ slice_get self.now index }
     {
@@ -68,6 +69,7 @@ impl Replies {
     }
 
     /// Appends a reply, for which there is room.
+    #[tactic(auto, using(crate::specs::Laws::Packed::pushed))]
     pub fn push(&mut self, reply: bool)
         requires { length self.old < 6 }
         ensures { self.new ≡ self.old ++ reply ∷ [] }

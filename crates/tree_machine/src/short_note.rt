@@ -71,6 +71,7 @@ impl ShortNote {
     }
 
     /// The counts.
+    #[tactic(auto, using(crate::proofs::Packed::length_is))]
     pub fn counts(&self) -> Note
         ensures { result ≡ self.now }
     {
@@ -92,6 +93,7 @@ impl ShortNote {
 
     /// The note that two bytes of a label hold, if they hold any.
     #[inline(always)]
+    #[tactic(auto, using(crate::proofs::Packed::note_read))]
     pub(crate) fn of_bytes(high: u8, low: u8) -> Option<ShortNote>
         ensures { IfSome result (λ note. note_code note ≡ high ∷ low ∷ []) }
     {

@@ -12,8 +12,3 @@ loop-index-preserved g c =
           c.index-threads-index.result refl ∙ c.loop-index.invariant.replies;
       length = search rules;
     }
-
-pub returns-in_err-rest-clause-replies : goal.returns-in_err-rest-clause-replies
-returns-in_err-rest-clause-replies g c =
-    map-set_same (λ thread. thread.replies) c.loop-index.threads c.loop-index.index _
-    c.index-threads-index.result refl ∙ c.loop-index.invariant.replies

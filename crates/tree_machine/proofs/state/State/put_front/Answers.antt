@@ -1,18 +1,8 @@
 -- The bytes of what stayed are those between the offsets.
 use Rattle.std.proofs.Common.{◌++◌, [], if◌then◌else◌, sym, ap, ◌∙◌, append_assoc}
 use Rattle.std.proofs.lemmas.Result.{on_ok_weaker}
-use Rattle.tree_machine.proofs.Labels.{offsets_in_order, op_log_piece, memory_piece}
+use Rattle.tree_machine.proofs.Labels.{op_log_piece, memory_piece}
 use Rattle.tree_machine.proofs.state.State.put_front.Goals as goal
-
-pub put_piece-requires : goal.put_piece-requires
-put_piece-requires g c =
-    let order = offsets_in_order _ _ _ _ c.requires.offsets _ _ (rw c.reads.ensures at c.end-end.ensures) in
-    record { order = order.0; within = order.2 }
-
-pub put_piece-requires-2 : goal.put_piece-requires-2
-put_piece-requires-2 g c =
-    let order = offsets_in_order _ _ _ _ c.requires.offsets _ _ (rw c.reads.ensures at c.end-end.ensures) in
-    record { order = order.1; within = order.2 }
 
 pub returns-then-did_no_more : goal.returns-then-did_no_more
 returns-then-did_no_more g c =
