@@ -41,12 +41,7 @@ met_newly order refs =
 -- what is new of names is what is new of the first of them, and then of the rest
 newly_append : (order : List ℕ) (refs sefs : List (Option ℕ))
     → newly order (refs ++ sefs) ≡ newly order refs ++ newly (met_all order refs) sefs
-newly_append order refs sefs =
-    ap (drop (length order))
-    (met_all_append order refs sefs ∙ met_newly (met_all order refs) sefs
-    ∙ ap (λ o. o ++ newly (met_all order refs) sefs) (met_newly order refs)
-    ∙ append_assoc order (newly order refs) (newly (met_all order refs) sefs))
-    ∙ drop-append_seam order (newly order refs ++ newly (met_all order refs) sefs)
+newly_append order refs sefs = grind (arith, met_all_append, met_newly, append_assoc, drop-append_seam)
 
 -- ---- numbers stay
 
@@ -110,9 +105,7 @@ parts_written c (p ∷ ps) nodes records e f =
 -- names in bytes
 names_coded : (order : List ℕ) (refs : List (Option ℕ)) → flat_map (λ r. name_code order r) refs
     ≡ flat_map number_code (map reference_number (map (option_and_then (place_in order)) refs))
-names_coded order refs =
-    sym (flat_map-map number_code reference_number (map (option_and_then (place_in order)) refs)
-    ∙ flat_map-map (λ r. number_code (reference_number r)) (option_and_then (place_in order)) refs)
+names_coded order refs = grind (arith, flat_map-map)
 
 -- names are numbered behind old, what is new among them is put into the queue, and they are written behind bytes
 pub record AreNamed (first : ℕ) (refs : List (Option ℕ)) (old queue bytes now then put : List ℕ) : Type 0 where
@@ -160,9 +153,7 @@ part_written : (nodes records : List ℕ) (p : Part)
     → facts_code (length p.nodes ∷ p.facts) (length p.nodes + length p.records)
     ++ (flat_map (λ r. name_code nodes r) p.nodes ++ flat_map (λ r. name_code records r) p.records)
     ≡ cell_code (part_content (renamed_part nodes records p))
-part_written nodes records p =
-    rw (names_coded nodes p.nodes, names_coded records p.records)
-    (sym (simp (length-append, length-map, map-append, flat_map-append)))
+part_written nodes records p = grind (arith, names_coded, length-append, length-map, map-append, flat_map-append)
 
 -- once the nodes, the records and the stack of a part are numbered and written, it is visited
 pub part_visited : {n r : ℕ} {nodes records queue front : List ℕ} (bytes : List ℕ) (old : Coding)

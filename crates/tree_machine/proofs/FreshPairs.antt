@@ -44,15 +44,7 @@ module _ {A : Type 0} (P : ℕ → ℕ → Type 0) (xs ys : List A) (x y : ℕ) 
 
   pub paired_set : (T : Option A → Option A → Type 0) → IsOneToOne P → AreWithin P xs ys → P x y → T (Some a) (Some b)
       → AreValuesPaired P T xs ys → AreValuesPaired P T (slice_set xs x a) (slice_set ys y b)
-  paired_set T one within at new old v w p =
-      elim (eqb_tells v x) [
-        | inl e ↦
-            let r = within x y at in
-            rw (e.1, (one v w x y p at).0 e.1, get-set_same xs x a r.0, get-set_same ys y b r.1) new
-        | inr e ↦
-            let right = get-set_other ys y w b (λ f. e.1 ((one v w x y p at).1 f)) in
-            rw (get-set_other xs x v a e.1, right) (old v w p)
-      ]
+  paired_set T one within at new old v w p = grind (arith, eqb_tells, get-set_same, get-set_other)
 
 -- ---- a value is appended on both sides, and their places are paired
 

@@ -55,9 +55,7 @@ module _ {Memory Place : Type 0} (front_code : Front → Memory → List ℕ)
       (are : AreOffsetsOf front_code behind_code stated offsets source) where
     -- the cuts are in order, within the bytes
     held_within : offsets.held ≤ length stated
-    held_within =
-        third_ends (number_code source.steps) (op_log_of source) (front_code offsets.front source.memory)
-        (behind_code offsets.front source.memory (places_of source.threads)) are.written are.op_log are.memory are.held
+    held_within = search (arith, third_ends)
 
     pub offsets_in_order : (same : Bool) (to : ℕ) → to ≡ (if same then offsets.held else offsets.memory)
         → (offsets.op_log ≤ to) × (offsets.memory ≤ to) × (to ≤ length stated)
@@ -111,9 +109,7 @@ module _ {Machine Memory Place Form : Type 0} (naming : Naming) (own_code : Memo
       → third ≡ second ++ code_by naming (own_code state.memory (places_of threads))
       (form_code (form_of state.memory (places_of threads)))
       → lent ≡ third → copy ≡ lent → copy ≡ label_code naming own_code form_code form_of state
-  label_put h k n f s t l p =
-      rw (p, l, t, s, f, n, h, k)
-      (append_assoc (number_code _) (op_log_of state) _ ∙ label_is naming own_code form_code form_of state)
+  label_put h k n f s t l p = grind (arith, append_assoc, label_is)
 
   -- a state that was read from the label of another has its memory from the code in that
   pub read_from : (rules : Rules Memory Place) (cut : Memory → List (Option Place) → List ℕ)

@@ -28,9 +28,7 @@ use Rattle.tree_machine.proofs.Lists.{get-set_same, get-set_other}
 
 -- a cell with no place was not met
 absent : (order : List ℕ) (x : ℕ) → place_in order x ≡ None → list_any (nat_eq x) order ≡ false
-absent order x e =
-    false_from_ne_true (list_any (nat_eq x) order) (λ h.
-    let k = place_from_has order x h in cc (e, k.1))
+absent order x e = grind (arith, false_from_ne_true, nat_eq, place_from_has)
 
 -- it is met by putting it at the end
 pub met_new : (order : List ℕ) (x : ℕ) → place_in order x ≡ None → order ++ x ∷ [] ≡ met order x
@@ -55,13 +53,7 @@ place_kept (z ∷ order) x y h = rw (place_kept order x y h) refl
 places_push : (order : List ℕ) (numbers : List (Option ℕ)) (x : ℕ) → HasPlaces order numbers → x < length numbers
     → place_in order x ≡ None → HasPlaces (order ++ x ∷ []) (set numbers x (Some (length order)))
 places_push order numbers x h l e k m =
-    let number = Some (length order) in
-    elim (eqb_tells k x) [
-      | inl t ↦ rw (t.1, get-set_same numbers x number l, place_push order x (absent order x e)) refl
-      | inr t ↦
-          rw (get-set_other numbers x k number t.1, place_kept order x k t.1)
-          (h k (omega (arith, m, length-set numbers x number)))
-    ]
+    grind (arith, eqb_tells, get-set_same, place_push, absent, get-set_other, place_kept, length-set)
 
 -- a cell that is met for the first time is at the end
 pub place_new : (order : List ℕ) (x : ℕ) {n : ℕ} → place_in order x ≡ None → n ≡ length order
@@ -105,11 +97,7 @@ module _ (order : List ℕ) {refs seen done : List (Option ℕ)} {i : ℕ} {s : 
   pub rename_some : (numbers : List (Option ℕ)) {x : ℕ} {r : Option ℕ} → HasPlaces order numbers
       → All (λ r. IfSome r (λ x. x < length numbers)) refs → get_or seen i None ≡ Some x → s ≡ r
       → r ≡ get_or numbers x r → done ++ s ∷ [] ≡ map (option_and_then (place_in order)) (take (i + 1) refs)
-  rename_some numbers {x} places range e f g =
-      let at : get_or refs i None ≡ Some x = ap (λ l. get_or l i None) (sym same) ∙ e in
-      rename_next (f ∙ (number_is order numbers places
-      (subst (λ r. IfSome r (λ x. x < length numbers)) at (range i None l)) g
-      ∙ ap (option_and_then (place_in order)) (sym e)))
+  rename_some numbers {x} places range e f g = grind (arith, rename_next, number_is)
 
 -- ---- few cells met, by their numbers
 

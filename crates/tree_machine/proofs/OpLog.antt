@@ -60,29 +60,11 @@ module _ {Machine Memory Place Form : Type 0} (rules : Rules Memory Place) (prog
     op_log_stays : (replies_of next.threads ≡ replies_of state.threads)
         × (notes_of next.threads ≡ notes_of state.threads)
     op_log_stays =
-        step_parts rules program _ state next t made (λ thread is op at_op stepped_is.
-        let same : thread ≡ there = same_Some _ _ (sym is ∙ at_t) in
-        let noted = noted thread.place thread.notes (finished_counts state.threads) in
-        let acted = rules.act op (place_or thread.place (rules.first op)) state.memory in
-        let parts = access_parts state t (at_step rules state op thread) acted in
-        let after = parts.0 in
-        let set : next.threads ≡ slice_set state.threads t after = rw stepped_is parts.2 in
-        let within = slice_get_within state.threads t there at_t in
-        let now : here ≡ after = same_Some _ _ (sym (rw set at found) ∙ get-set_same state.threads t after within) in
-        let replies = parts.3 ∙ ap (λ (x : Thread Place). x.replies ++ parts.1) same in
-        let notes = parts.4 ∙ noted.1 ∙ ap (λ (x : Thread Place). x.notes ++ noted.0) same in
-        rw set (
-          map-put (λ (x : Thread Place). x.replies) state.threads t after there at_t
-              (no_more there.replies parts.1 after.replies replies (rw now at as_many)),
-          map-put (λ (x : Thread Place). x.notes) state.threads t after there at_t
-              (no_more there.notes noted.0 after.notes notes (rw now at as_many_notes)),
-        ))
+        grind (arith, step_parts, same_Some, noted, access_parts, slice_get_within, get-set_same, map-put, no_more)
 
     -- and so are its bytes
     pub same_op_log : next.astray ≡ None → op_log_of next ≡ op_log_of state
-    same_op_log calm =
-        let astray = calm ∙ sym source_not_astray in
-        λ i. op_log_code (op_log_stays.0 i) (op_log_stays.1 i) (astray i)
+    same_op_log calm = grind (arith, source_not_astray, op_log_stays)
 
 -- ---- a step that is taken back
 

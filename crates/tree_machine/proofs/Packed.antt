@@ -21,9 +21,7 @@ use mathlib.Core.Bool.{beq}
 module _ {A : Type 0} (eq : A → A → Bool) (same : (xs : List A) → pointwise eq xs xs ≡ true)
     (exact : (xs ys : List A) → pointwise eq xs ys ≡ true → xs ≡ ys) (read : ℕ → List A) (number : List A → ℕ) where
   read_same : (n m : ℕ) → number (read n) ≡ n → number (read m) ≡ m → nat_eq n m ≡ pointwise eq (read n) (read m)
-  read_same n m n_whole m_whole =
-      same_answer (nat_eq n m) (pointwise eq (read n) (read m)) (λ e. rw (← eqb-true n m e) (same (read n)))
-      (λ e. eq-eqb n m (sym n_whole ∙ (ap number (exact (read n) (read m) e) ∙ m_whole)))
+  read_same n m n_whole m_whole = grind (arith, same_answer, nat_eq, eqb-true, eq-eqb)
 
 -- numbers are equal where the replies are
 pub replies_same : (n m : ℕ) → 0 < n → n < 128 → 0 < m → m < 128
@@ -86,9 +84,7 @@ module _ {n : ℕ} {counts : List ℕ} (whole : note_number (counts_in n) ≡ n)
         ap₂ (λ k m. k + (4096 + m)) is_number moved ∙ sym (one_count_more counts count room)
 
     longer_short : is_short (counts ++ count ∷ []) ≡ true
-    longer_short =
-        short_of (counts ++ count ∷ []) (omega (arith, length-append counts (count ∷ []), room))
-        (digits_more counts count (short_parts counts are_short).1 small)
+    longer_short = grind (arith, short_of, length-append, digits_more, short_parts, are_short)
 
     pub count_pushed : counts_in longer ≡ counts ++ count ∷ []
     count_pushed = ap counts_in longer_is ∙ counts_of_number (counts ++ count ∷ []) longer_short

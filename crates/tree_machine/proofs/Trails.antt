@@ -208,9 +208,7 @@ module _ {s : Parts} {roots before : List ℕ} {k : ℕ} {front apart : List ℕ
 counted : (keep : List ℕ → List ℕ) (f : ℕ → Part) → ((xs ys : List ℕ) → keep (xs ++ ys) ≡ keep xs ++ keep ys)
     → (before queue all : List ℕ) (count n : ℕ) → all ≡ keep (before ++ queue) → count ≡ length all
     → n ≡ length (keep before) → length (map f (keep queue)) ≡ count - n
-counted keep f append before queue all count n e count_is n_is =
-    let many = ap length (e ∙ append before queue) ∙ length-append (keep before) (keep queue) in
-    omega (arith, length-map (keep queue) f, many)
+counted keep f append before queue all count n e count_is n_is = grind (arith, length-append, length-map)
 
 -- the counts are set once all is visited, and the records come behind the nodes
 pub graph_written : {s : Parts} {roots before : List ℕ} {v : ℕ} {c : Coding} → IsWalk s roots before v c

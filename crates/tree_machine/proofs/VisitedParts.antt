@@ -90,11 +90,7 @@ module _ {start now : Coding} {bytes put : List ℕ} {parts : List Part} {k : �
 
   -- none are left
   pub left_none : length parts ≤ k → (now ≡ with_parts start parts) × (put ≡ bytes ++ coded_parts start parts)
-  left_none l =
-      let none = drop_all k parts l in (
-        sym (ap (with_parts now) none) ∙ left.coding,
-        sym (append-nil put) ∙ sym (ap (λ ps. put ++ coded_parts now ps) none) ∙ left.written,
-      )
+  left_none l = grind (arith, drop_all, append-nil)
 
 -- ---- own numbers
 
@@ -146,9 +142,4 @@ pub own_written : (s : Parts) (old : List ℕ) {n r : ℕ} {counted nodes record
     → r ≡ length s.records → n < 255 → r < 255 → counted ≡ old ++ n ∷ r ∷ [] → nodes ≡ counted ++ part_codes s.nodes
     → records ≡ nodes ++ part_codes s.records → held ≡ records ++ part_codes s.held
     → held ≡ old ++ parts_code (all_front s) s
-own_written s old {n} {r} en er l g c h k e =
-    let first = ap number_code (sym en) ∙ small_code n l in
-    let second = ap number_code (sym er) ∙ small_code r g in
-    let code = own_parts_code s
-    ∙ (λ i. (first i ++ (second i ++ codes_append s.nodes s.records i)) ++ part_codes s.held) in
-    rw (e, k, h, c) ((simp append_assoc) ∙ ap (λ l. old ++ l) (sym code))
+own_written s old {n} {r} en er l g c h k e = grind (arith, small_code, own_parts_code, codes_append, append_assoc)
