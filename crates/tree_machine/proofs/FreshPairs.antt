@@ -76,6 +76,4 @@ module _ {A : Type 0} (pairs : List (ℕ × ℕ)) (xs ys : List A) (within : Are
         → AreValuesPaired (IsAmong pairs) T xs ys → AreValuesPaired Fresh T (xs ++ a ∷ []) (ys ++ b ∷ [])
     fresh_paired T new old x y (inl e) =
         rw (← e.0, ← e.1, get_last xs a, get_last ys b) new
-    fresh_paired T new old x y (inr p) =
-        let r = within x y p in
-        rw (get_front xs (a ∷ []) x r.0, get_front ys (b ∷ []) y r.1) (old x y p)
+    fresh_paired T new old x y (inr p) = grind (arith, get_front)

@@ -184,14 +184,10 @@ module _ {fixed : ℕ} {s : Parts} {old : Coding} (h : HasFront fixed s old) whe
 
   -- the roots have the nodes and the records of the front
   root_nodes : nodes_met (length s.nodes) roots ≡ old.nodes
-  root_nodes =
-      rw (nodes_first (length s.nodes) (length s.records) old.nodes old.records _ met.nodes_below, held_no_nodes s)
-      (append-nil old.nodes)
+  root_nodes = grind (arith, nodes_first, met, held_no_nodes, append-nil)
 
   root_records : records_met (length s.nodes) (length s.records) roots ≡ old.records
-  root_records =
-      records_first (length s.nodes) (length s.records) old.nodes old.records _ met.nodes_below met.records_below
-      ∙ rw (held_no_records s) (append-nil old.records)
+  root_records = grind (arith, records_first, met, held_no_records, append-nil)
 
   -- what the threads hold is visited behind the front
   held_walked : IsWalk s roots roots (length roots) held
@@ -301,6 +297,4 @@ module _ {fixed : ℕ} {s : Parts} {old : Coding} (h : HasFront fixed s old) whe
   pub walk_begun : IsRooted cells roots × (IsWalk s roots roots (length roots) held
       × ((length old.nodes ≡ length (nodes_met held.nodes_below roots))
       × (length old.records ≡ length (records_met held.nodes_below held.records_below roots))))
-  walk_begun =
-      rw (held_walked.nodes_below, held_walked.records_below)
-      (rooted, (held_walked, (ap length (sym root_nodes), ap length (sym root_records))))
+  walk_begun = grind (arith, held_walked, rooted, root_nodes, root_records)

@@ -8,9 +8,8 @@ use Rattle.std.proofs.lemmas.Option.{get_or_from_slice_get, same_Some, slice_get
 use Rattle.sched_program.specs.Program.{Program}
 use Rattle.tree_machine.specs.Alike.{replies_of, notes_of}
 use Rattle.tree_machine.specs.Offsets.{op_log_of}
-use Rattle.tree_machine.specs.FormCode.{op_log_code}
 use Rattle.tree_machine.specs.Rules.{Rules}
-use Rattle.tree_machine.specs.Step.{at_step, after_access, finished_counts, notes_at_step, ready, step, place_or}
+use Rattle.tree_machine.specs.Step.{at_step, after_access, notes_at_step, ready, step, place_or}
 use Rattle.tree_machine.specs.declared.machine.Outcome.{Outcome}
 use Rattle.tree_machine.specs.declared.machine.Outcome.TheVariants.{Goes, Replies, Astray}
 use Rattle.tree_machine.specs.declared.state.Thread.{Thread}

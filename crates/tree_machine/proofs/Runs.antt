@@ -1,7 +1,7 @@
 -- Histories: the operations of one more reply and of one more thread, and that the history of a state that fits a
 -- program is a history of that program.
 use Rattle.std.proofs.Common.{◌≡◌, ℕ, zero, suc, ◌+◌, inl, inr, Bool, true, false, List, [], ◌∷◌, ◌++◌, length, map}
-use Rattle.std.proofs.Common.{Option, Some, IsSome, refl, sym, ap, ◌∙◌, arith, slice_get, get_or, if◌then◌else◌, ◌<◌}
+use Rattle.std.proofs.Common.{Option, Some, IsSome, refl, sym, ◌∙◌, arith, slice_get, get_or, if◌then◌else◌, ◌<◌}
 use Rattle.std.proofs.Common.{take, append_assoc, length-take-le, eq-eqb, append-nil}
 use Rattle.std.proofs.lemmas.Option.{slice_get_within, get_or_from_slice_get, same_Some}
 use Rattle.std.proofs.lemmas.List.{take_more, length-map, map-append}
@@ -23,16 +23,13 @@ module _ {A : Type 0} where
   named-push : (thread index : ℕ) (xs : List A) (x : A) (last : ℕ) → last ≡ index + length xs
       → named thread index (xs ++ x ∷ []) ≡ named thread index xs ++ (record { thread = thread; index = last }, x) ∷ []
   named-push thread index [] x last is = let same : index ≡ last = omega arith in rw same
-  named-push thread index (y ∷ ys) x last is =
-      ap (λ rest. (record { thread = thread; index = index }, y) ∷ rest)
-      (named-push thread (index + 1) ys x last (omega arith))
+  named-push thread index (y ∷ ys) x last is = grind (arith, named-push thread (index + 1) ys x last (omega arith))
 
   all_named-push : (thread : ℕ) (all : List (List A)) (xs : List A) (last : ℕ) → last ≡ thread + length all
       → all_named thread (all ++ xs ∷ []) ≡ all_named thread all ++ named last 0 xs
   all_named-push thread [] xs last is = let same : thread ≡ last = omega arith in rw same (append-nil _)
   all_named-push thread (ys ∷ all) xs last is =
-      ap (λ rest. named thread 0 ys ++ rest) (all_named-push (thread + 1) all xs last (omega arith))
-      ∙ sym (append_assoc (named thread 0 ys) (all_named (thread + 1) all) (named last 0 xs))
+      grind (arith, append_assoc, all_named-push (thread + 1) all xs last (omega arith))
 
   -- one more operation
   pub one_more : (before : List (OpId × A)) {now next : List (OpId × A)} (thread index : ℕ) (xs : List A) {x : A}

@@ -185,22 +185,7 @@ module _ {s : Parts} {roots before : List ℕ} {k : ℕ} {front apart : List ℕ
     -- where the queue is visited, all is met, and each name in it has its number
     pub trail_ended : length c.queue ≤ k → IsWalk s roots before (length (parts_graph s ++ parts_held s)) c
         × AreWritten s front apart c.queue bytes out c
-    trail_ended l =
-        let w = t.walk in
-        let v = length before + k in
-        let none = slice_get_past (met_in (parts_graph s ++ parts_held s) roots v) v
-        (omega (arith, ap length w.met, length-append before c.queue)) in (
-          record {
-            met = w.met ∙ met_in_ended (parts_graph s ++ parts_held s) roots rooted v none;
-            nodes = w.nodes;
-            records = w.records;
-            nodes_below = w.nodes_below;
-            records_below = w.records_below;
-            graph = w.graph;
-          },
-          subst (λ q. AreWritten s front apart q bytes out c) (take_all k c.queue l)
-              (t.written c (extends_itself c.nodes) (extends_itself c.records)),
-        )
+    trail_ended l = grind (arith, slice_get_past, length-append, met_in_ended, take_all, extends_itself)
 
 -- ---- the graph
 

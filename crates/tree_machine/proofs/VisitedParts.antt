@@ -13,7 +13,7 @@ use Rattle.std.proofs.Math.Seq.{drop-append_seam, drop-length, take-append_seam}
 use Rattle.tree_machine.specs.Parts.{Part, IsPartBelow, no_part, part_at, Parts}
 use Rattle.tree_machine.specs.Coding.{Coding, IsVisited, coded_parts, with_part, with_parts, IsOwn, coded_by}
 use Rattle.tree_machine.specs.Cells.{met_all, place_in}
-use Rattle.tree_machine.specs.Flat.{all_front, cell_code, number_code, part_codes, part_content, parts_code}
+use Rattle.tree_machine.specs.Flat.{all_front, cell_code, part_codes, part_content, parts_code}
 use Rattle.tree_machine.specs.Graphs.{numbers_from}
 use Rattle.tree_machine.specs.Laws.CellLists.{distinct_in_row}
 use Rattle.tree_machine.specs.Laws.CellOrder.{RefsBelow}
