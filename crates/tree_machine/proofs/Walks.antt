@@ -73,4 +73,4 @@ order_in_range cells roots order h e =
     rw e (λ k d l. (met_in_order cells roots h (length cells)).below _ (has_at _ k _ (slice_get-get_or _ k d l)))
 
 -- the steps of a walk
-pub ruleset walked = (root_next, visit_in_range, met_in_next)
+pub ruleset walked = (visit_in_range, met_in_next)
