@@ -59,8 +59,7 @@ names_kept : {xs ys : List ℕ} → Extends xs ys → (refs : List (Option ℕ))
     → map (option_and_then (place_in ys)) refs ≡ map (option_and_then (place_in xs)) refs
 names_kept e [] h = refl
 names_kept e (None ∷ refs) h = ap (λ l. None ∷ l) (names_kept e refs h)
-names_kept {xs} e (Some x ∷ refs) h =
-    rw (e.is, place_kept xs e.rest x h.0) (ap (λ l. place_in xs x ∷ l) (names_kept e refs h.1))
+names_kept {xs} e (Some x ∷ refs) h = grind (arith, place_kept, names_kept e refs h.1)
 
 -- a part whose names have numbers is written alike by more numbers
 pub renamed_kept : {nodes records others targets : List ℕ} (p : Part) → Extends nodes others → Extends records targets

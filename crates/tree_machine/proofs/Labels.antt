@@ -59,10 +59,8 @@ module _ {Memory Place : Type 0} (front_code : Front → Memory → List ℕ)
 
     pub offsets_in_order : (same : Bool) (to : ℕ) → to ≡ (if same then offsets.held else offsets.memory)
         → (offsets.op_log ≤ to) × (offsets.memory ≤ to) × (to ≤ length stated)
-    offsets_in_order true to e =
-        (omega (arith, e, are.memory, are.held), omega (arith, e, are.held), omega (arith, e, held_within))
-    offsets_in_order false to e =
-        (omega (arith, e, are.memory), omega (arith, e), omega (arith, e, are.held, held_within))
+    offsets_in_order true to e = grind (arith, held_within)
+    offsets_in_order false to e = grind (arith, held_within)
 
     -- the bytes of the memory, if they are asked for
     pub memory_piece : (mem : Memory) (same : Bool) (to : ℕ) → (IsTrue same → mem ≡ source.memory)

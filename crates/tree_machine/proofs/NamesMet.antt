@@ -1,5 +1,5 @@
 -- Names of nodes and of records that a walk meets: what is new among them comes behind what was met.
-use Rattle.std.proofs.Common.{refl, ◌≡◌, ℕ, ◌+◌, ◌<◌, true, false, cond, List, [], ◌∷◌, ◌++◌, map, sym, ◌∙◌, ap, arith}
+use Rattle.std.proofs.Common.{◌≡◌, ℕ, ◌+◌, ◌<◌, true, false, cond, List, [], ◌∷◌, ◌++◌, map, sym, ◌∙◌, ap, arith}
 use Rattle.std.proofs.Common.{append_assoc, append-nil, Option, Some, None, nat_eq, nat_lt, map-id}
 use Rattle.std.specs.List.{All, list_any}
 use Rattle.std.specs.Option.{option_map}
@@ -27,8 +27,7 @@ AreAlike f b m xs = (y : ℕ) → y < b → list_any (nat_eq (f y)) m ≡ list_a
 
 module _ (f : ℕ → ℕ) (one : (x y : ℕ) → f x ≡ f y → x ≡ y) (b : ℕ) where
   alike_more : (m xs : List ℕ) (x : ℕ) → AreAlike f b m xs → AreAlike f b (m ++ f x ∷ []) (xs ++ x ∷ [])
-  alike_more m xs x h y l =
-      rw (list_any-append, list_any-append, h y l, same_tests (f y) y (f x) x (one y x, λ e. ap f e)) refl
+  alike_more m xs x h y l = grind (arith, list_any-append, same_tests)
 
   -- from now and then on, refs add the same numbers to xs, and raised to m
   abbrev AddNew : (xs now m then : List ℕ) → List (Option ℕ) → Type 0

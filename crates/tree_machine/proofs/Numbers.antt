@@ -58,8 +58,7 @@ places_push order numbers x h l e k m =
 -- a cell that is met for the first time is at the end
 pub place_new : (order : List ℕ) (x : ℕ) {n : ℕ} → place_in order x ≡ None → n ≡ length order
     → place_in (met order x) x ≡ Some n
-place_new order x e is_length =
-    ap (λ o. place_in o x) (sym (met_new order x e)) ∙ place_push order x (absent order x e) ∙ ap Some (sym is_length)
+place_new order x e is_length = grind (arith, met_new, place_push, absent)
 
 module _ (order : List ℕ) (numbers : List (Option ℕ)) {x : ℕ} {r : Option ℕ} (h : HasPlaces order numbers)
     (l : x < length numbers) (e : r ≡ get_or numbers x r) where
@@ -82,8 +81,7 @@ module _ (order : List ℕ) (numbers : List (Option ℕ)) {x : ℕ} {r : Option 
   -- the numbers after a cell was met for the first time
   pub places_met : {after : List ℕ} {n : ℕ} → r ≡ None → n ≡ length order → after ≡ order ++ x ∷ []
       → HasPlaces after (set numbers x (Some n))
-  places_met none is_length is_after =
-      simp (is_length, is_after) (places_push order numbers x h l (place_absent none))
+  places_met none is_length is_after = grind (arith, places_push, place_absent)
 
 -- the step of a loop that renames refs
 module _ (order : List ℕ) {refs seen done : List (Option ℕ)} {i : ℕ} {s : Option ℕ} (same : seen ≡ refs)
@@ -129,8 +127,7 @@ nothing_twice e = subst (IsDistinct nat_eq) (sym e) distinct_none
 -- nothing is met in a list that was rebuilt, or that is left as it was where its growth was refused
 pub made_or_left : (t : Bool) {order old new : List ℕ} (n : ℕ) {len : ℕ} → order ≡ [] → old ≡ [] → len ≡ 0
     → new ≡ cond t (take n old ++ replicate (n - len) 0) old → HasNumbers order new
-made_or_left true n is_none e z h = nothing_met n is_none
-    (h ∙ simp (e, z, take-nil) (ap (λ k. replicate k 0) (omega arith)))
+made_or_left true n is_none e z h = grind (arith, nothing_met, take-nil)
 made_or_left false n is_none e z h = nothing_met 0 is_none (h ∙ e)
 
 -- where a cell has no number, its number is 0

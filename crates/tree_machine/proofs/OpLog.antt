@@ -9,7 +9,7 @@ use Rattle.sched_program.specs.Program.{Program}
 use Rattle.tree_machine.specs.Alike.{replies_of, notes_of}
 use Rattle.tree_machine.specs.Offsets.{op_log_of}
 use Rattle.tree_machine.specs.Rules.{Rules}
-use Rattle.tree_machine.specs.Step.{at_step, after_access, notes_at_step, ready, step, place_or}
+use Rattle.tree_machine.specs.Step.{at_step, after_access, notes_at_step, step, place_or}
 use Rattle.tree_machine.specs.declared.machine.Outcome.{Outcome}
 use Rattle.tree_machine.specs.declared.machine.Outcome.TheVariants.{Goes, Replies, Astray}
 use Rattle.tree_machine.specs.declared.state.Thread.{Thread}
@@ -49,8 +49,7 @@ module _ {Machine Memory Place Form : Type 0} (rules : Rules Memory Place) (prog
     (state next : State Machine Memory Place Form) (t : ℕ) (made : step rules program state t ≡ Some next) where
   -- a state that has a step is not astray
   pub source_not_astray : state.astray ≡ None
-  source_not_astray =
-      let whose = map_some _ (ready program state t) next made in (not_astray state.astray _ whose.0 whose.1).0
+  source_not_astray = grind (arith, map_some, not_astray)
 
   module _ {there here : Thread Place} (at_t : slice_get state.threads t ≡ Some there)
       (found : slice_get next.threads t ≡ Some here) (as_many : length here.replies ≡ length there.replies)

@@ -102,8 +102,7 @@ pub record IsTrail (s : Parts) (roots before : List ℕ) (k : ℕ) (front apart 
 -- before the first visit nothing is written
 pub trail_begun : {s : Parts} {roots before : List ℕ} {c : Coding} {bytes out : List ℕ}
     → IsWalk s roots before (length before) c → IsTrail s roots before 0 bytes out c bytes out
-trail_begun {bytes = bytes} {out = out} w =
-    record { walk = rw add-zero w; written = λ end e f. (sym (append-nil bytes), sym (append-nil out)) }
+trail_begun {bytes = bytes} {out = out} w = grind (arith, add-zero, append-nil)
 
 -- the visited cells of a queue, once the next one is visited
 visited_next : (c : Coding) (p : Part) (k x : ℕ) → slice_get c.queue k ≡ Some x
