@@ -1,7 +1,6 @@
 -- Alike states: the same threads of theirs have steps, their steps are alike, and so are their findings.
 use Rattle.std.proofs.Common.{◌≡◌, ℕ, List, [], ◌∷◌, ◌++◌, length, Bool, Option, Some, None, is_some, refl, sym, ap}
-use Rattle.std.proofs.Common.{◌∙◌, slice_get, ◌↔◌, zero, suc, if◌then◌else◌, true, false, option_and_then, slice_set}
-use Rattle.std.specs.Prelude.{IsTrue, IsSomeAnd}
+use Rattle.std.proofs.Common.{◌∙◌, slice_get, ◌↔◌, zero, suc, option_and_then, slice_set, IsTrue, IsSomeAnd}
 use Rattle.std.specs.List.{AllZip}
 use Rattle.std.specs.Option.{option_map}
 use Rattle.sched_program.specs.Program.{Program}
@@ -19,6 +18,7 @@ use Rattle.tree_machine.specs.declared.state.State.{State}
 use Rattle.tree_machine.specs.Laws.Cells.{AllZip-weaker, map_paired as same_maps}
 use Rattle.tree_machine.specs.Laws.Decoded.{held_are_some}
 use Rattle.tree_machine.specs.Laws.MetLists.{map_zip}
+use Rattle.tree_machine.proofs.FreshPairs.{choices_paired}
 
 -- ---- options and lists whose values are paired
 
@@ -43,12 +43,6 @@ module _ {A : Type 0} where
   zip_get P (x ∷ xs) (y ∷ ys) zero z = z.0
   zip_get P (x ∷ xs) (y ∷ ys) (suc t) z = zip_get P xs ys t z.1
   zip_get P _ _ t z = absurd z
-
-  if_paired : (P : A → A → Type 0) (b c : Bool) (held twin : Option A) → b ≡ c → AreHeldPaired P held twin
-      → AreHeldPaired P (if b then None else held) (if c then None else twin)
-  if_paired P b c held twin h k =
-      rw h (elim c as (λ c. AreHeldPaired P (if c then None else held) (if c then None else twin))
-      [ true ↦ tt | false ↦ k ])
 
   -- what is in two options that are paired
   held_some : (P : A → A → Type 0) (held twin : Option A) (x : A) → AreHeldPaired P held twin → held ≡ Some x
@@ -85,10 +79,9 @@ module _ {Place : Type 0} where
     replies : thread.replies ≡ twin.replies
     notes : thread.notes ≡ twin.notes
 
-  threads_weaker : (P Q : Place → Place → Type 0) → ((x y : Place) → P x y → Q x y) → (thread twin : Thread Place)
-      → AreThreadsPaired P thread twin → AreThreadsPaired Q thread twin
-  threads_weaker P Q h thread twin k =
-      record { place = held_weaker P Q h thread.place twin.place k.place; replies = k.replies; notes = k.notes }
+  -- two threads that are paired, each with the same operation
+  abbrev AreReadyPaired : (Place → Place → Type 0) → Thread Place × Op → Thread Place × Op → Type 0
+  AreReadyPaired P x y = AreThreadsPaired P x.0 y.0 × (x.1 ≡ y.1)
 
   threads_zip : (P : Place → Place → Type 0) (xs ys : List (Thread Place))
       → AllZip (AreHeldPaired P) (places_of xs) (places_of ys)
@@ -178,32 +171,35 @@ module _ {Machine Memory Place Form : Type 0} (rules : Rules Memory Place) where
           notes = rw (k.notes, zip_counts _ state.threads twin.threads z)
               (notes_paired (rules.pairs.places p) thread.place other.place other.notes _ k.place);
         }) both
-        (AllZip-weaker _ _ (threads_weaker _ _ (λ x y. lawful.places_extend p both.then x y both.extends))
-        state.threads twin.threads z)
+        (AllZip-weaker _ _ (λ x y k. record {
+          place = held_weaker _ _ (λ v w. lawful.places_extend p both.then v w both.extends) x.place y.place k.place;
+          replies = k.replies;
+          notes = k.notes;
+        }) state.threads twin.threads z)
 
     threads_paired : (alike : AreStatesAlike rules state twin)
         → AllZip (AreThreadsPaired (rules.pairs.places alike.paired.0)) state.threads twin.threads
     threads_paired alike = threads_zip _ state.threads twin.threads alike.paired.2 alike.replies alike.notes
 
-    -- paired threads are in the same operation, or may begin the same next
-    next_same : (P : Place → Place → Type 0) (program : Program) (t : ℕ) (counts others : List ℕ)
-        (thread other : Thread Place) → counts ≡ others → AreThreadsPaired P thread other
-        → next_op program counts t thread ≡ next_op program others t other
-    next_same P program t counts others thread other c k =
-        rw (held_are_some P thread.place other.place k.place, k.replies, c) refl
-
     -- in alike states the threads that have a step are the same, each with the same operation
     ready_alike : (alike : AreStatesAlike rules state twin) → (program : Program) (t : ℕ)
-        → AreHeldPaired
-        (λ (x y : Thread Place × Op). AreThreadsPaired (rules.pairs.places alike.paired.0) x.0 y.0 × (x.1 ≡ y.1))
-        (ready program state t) (ready program twin t)
+        → AreHeldPaired (AreReadyPaired (rules.pairs.places alike.paired.0)) (ready program state t)
+        (ready program twin t)
     ready_alike alike program t =
-        if_paired _ (is_some state.astray) (is_some twin.astray) _ _ (ap is_some alike.astray)
-        (then_paired _ (AreThreadsPaired (rules.pairs.places alike.paired.0)) _ _
-        (λ thread other k. rw (next_same _ program t _ _ thread other
-        (zip_counts _ state.threads twin.threads (threads_paired alike)) k)
-        (same_paired _ (λ op. (thread, op)) (λ op. (other, op)) (λ op. (k, refl))
-        (next_op program (finished_counts twin.threads) t other)))
+        let P = rules.pairs.places alike.paired.0 in
+        choices_paired (AreHeldPaired (AreReadyPaired P)) (is_some state.astray) (is_some twin.astray) None _ None _
+        (ap is_some alike.astray) tt
+        (then_paired (AreReadyPaired P) (AreThreadsPaired P) _ _
+        (λ thread other k.
+        let same : next_op program (finished_counts state.threads) t thread
+        ≡ next_op program (finished_counts twin.threads) t other =
+        rw (
+          held_are_some P thread.place other.place k.place,
+          k.replies,
+          zip_counts P state.threads twin.threads (threads_paired alike),
+        )
+        refl in
+        rw same (same_paired (AreReadyPaired P) (λ op. (thread, op)) (λ op. (other, op)) (λ op. (k, refl)) _))
         (slice_get state.threads t) (slice_get twin.threads t)
         (zip_get _ state.threads twin.threads t (threads_paired alike)))
 
@@ -211,9 +207,7 @@ module _ {Machine Memory Place Form : Type 0} (rules : Rules Memory Place) where
     alike_steps : AreLawful rules → AreStatesAlike rules state twin → (program : Program) (t : ℕ)
         → AreHeldPaired (AreStatesAlike rules) (step rules program state t) (step rules program twin t)
     alike_steps lawful alike program t =
-        map_paired (AreStatesAlike rules)
-        (λ (x y : Thread Place × Op). AreThreadsPaired (rules.pairs.places alike.paired.0) x.0 y.0 × (x.1 ≡ y.1)) _
-        _
+        map_paired (AreStatesAlike rules) (AreReadyPaired (rules.pairs.places alike.paired.0)) _ _
         (λ x y k. rw (← k.1)
         (stepped_alike lawful.pairs_lawful alike.paired.0 alike.paired.1 (threads_paired alike) t x.1 x.0 y.0 k.0))
         (ready program state t) (ready program twin t) (ready_alike alike program t)

@@ -17,6 +17,7 @@ use Rattle.tree_machine.specs.Flat.{reference_number}
 use Rattle.tree_machine.specs.Parts.{Part}
 use Rattle.tree_machine.specs.Laws.CellOrder.{Extends, Has, HasAll, extends_itself, extends_more, met_all_extends}
 use Rattle.tree_machine.specs.Laws.CellOrder.{met_all_has}
+use Rattle.tree_machine.specs.Laws.Graphs.{numbers_more}
 
 -- ---- what is met
 
@@ -40,12 +41,7 @@ met_newly order refs =
 -- what is new of names is what is new of the first of them, and then of the rest
 newly_append : (order : List ℕ) (refs sefs : List (Option ℕ))
     → newly order (refs ++ sefs) ≡ newly order refs ++ newly (met_all order refs) sefs
-newly_append order refs sefs =
-    ap (drop (length order))
-    (met_all_append order refs sefs ∙ met_newly (met_all order refs) sefs
-    ∙ ap (λ o. o ++ newly (met_all order refs) sefs) (met_newly order refs)
-    ∙ append_assoc order (newly order refs) (newly (met_all order refs) sefs))
-    ∙ drop-append_seam order (newly order refs ++ newly (met_all order refs) sefs)
+newly_append order refs sefs = grind (arith, met_all_append, met_newly, append_assoc, drop-append_seam)
 
 -- ---- numbers stay
 
@@ -63,8 +59,7 @@ names_kept : {xs ys : List ℕ} → Extends xs ys → (refs : List (Option ℕ))
     → map (option_and_then (place_in ys)) refs ≡ map (option_and_then (place_in xs)) refs
 names_kept e [] h = refl
 names_kept e (None ∷ refs) h = ap (λ l. None ∷ l) (names_kept e refs h)
-names_kept {xs} e (Some x ∷ refs) h =
-    rw (e.is, place_kept xs e.rest x h.0) (ap (λ l. place_in xs x ∷ l) (names_kept e refs h.1))
+names_kept {xs} e (Some x ∷ refs) h = grind (arith, place_kept, names_kept e refs h.1)
 
 -- a part whose names have numbers is written alike by more numbers
 pub renamed_kept : {nodes records others targets : List ℕ} (p : Part) → Extends nodes others → Extends records targets
@@ -74,13 +69,12 @@ renamed_kept p e f h g =
     λ i. record { facts = p.facts; nodes = names_kept e p.nodes h i; records = names_kept f p.records g i }
 
 -- numbers stay, whatever is visited
-pub nodes_extend : (c : Coding) (ps : List Part) → Extends c.nodes (with_parts c ps).nodes
-nodes_extend c [] = extends_itself c.nodes
-nodes_extend c (p ∷ ps) = extends_more (met_all_extends p.nodes c.nodes) (nodes_extend (with_part c p) ps)
-
-pub records_extend : (c : Coding) (ps : List Part) → Extends c.records (with_parts c ps).records
-records_extend c [] = extends_itself c.records
-records_extend c (p ∷ ps) = extends_more (met_all_extends p.records c.records) (records_extend (with_part c p) ps)
+pub numbers_extend : (c : Coding) (ps : List Part) → Extends c.nodes (with_parts c ps).nodes
+    × Extends c.records (with_parts c ps).records
+numbers_extend c [] = (extends_itself c.nodes, extends_itself c.records)
+numbers_extend c (p ∷ ps) =
+    let more = numbers_extend (with_part c p) ps in
+    (extends_more (met_all_extends p.nodes c.nodes) more.0, extends_more (met_all_extends p.records c.records) more.1)
 
 -- ---- parts in bytes
 
@@ -100,19 +94,17 @@ pub parts_written : (c : Coding) (ps : List Part) (nodes records : List ℕ) →
     → coded_parts c ps ≡ part_codes (map (renamed_part nodes records) ps)
 parts_written c [] nodes records e f = refl
 parts_written c (p ∷ ps) nodes records e f =
-    let then = with_part c p in
-    let here = renamed_kept p (extends_more (nodes_extend then ps) e) (extends_more (records_extend then ps) f)
-    (met_all_has p.nodes c.nodes) (met_all_has p.records c.records) in
-    λ i. cell_code (part_content (sym here i)) ++ parts_written then ps nodes records e f i
+    let more = numbers_extend (with_part c p) ps in
+    let here = renamed_kept p (extends_more more.0 e) (extends_more more.1 f) (met_all_has p.nodes c.nodes)
+    (met_all_has p.records c.records) in
+    λ i. cell_code (part_content (sym here i)) ++ parts_written (with_part c p) ps nodes records e f i
 
 -- ---- names that are numbered and written one behind the other
 
 -- names in bytes
 names_coded : (order : List ℕ) (refs : List (Option ℕ)) → flat_map (λ r. name_code order r) refs
     ≡ flat_map number_code (map reference_number (map (option_and_then (place_in order)) refs))
-names_coded order refs =
-    sym (flat_map-map number_code reference_number (map (option_and_then (place_in order)) refs)
-    ∙ flat_map-map (λ r. number_code (reference_number r)) (option_and_then (place_in order)) refs)
+names_coded order refs = grind (arith, flat_map-map)
 
 -- names are numbered behind old, what is new among them is put into the queue, and they are written behind bytes
 pub record AreNamed (first : ℕ) (refs : List (Option ℕ)) (old queue bytes now then put : List ℕ) : Type 0 where
@@ -160,9 +152,7 @@ part_written : (nodes records : List ℕ) (p : Part)
     → facts_code (length p.nodes ∷ p.facts) (length p.nodes + length p.records)
     ++ (flat_map (λ r. name_code nodes r) p.nodes ++ flat_map (λ r. name_code records r) p.records)
     ≡ cell_code (part_content (renamed_part nodes records p))
-part_written nodes records p =
-    rw (names_coded nodes p.nodes, names_coded records p.records)
-    (sym (simp (length-append, length-map, map-append, flat_map-append)))
+part_written nodes records p = grind (arith, names_coded, length-append, length-map, map-append, flat_map-append)
 
 -- once the nodes, the records and the stack of a part are numbered and written, it is visited
 pub part_visited : {n r : ℕ} {nodes records queue front : List ℕ} (bytes : List ℕ) (old : Coding)
@@ -182,3 +172,6 @@ part_visited bytes old view facts ns rs stack fe em ek ef {then} {second = secon
       rw (← view, d.queued, a.queued, ef, em, ek, a.order, d.order) (simp (zero-add, map-id)),
       rw (← part_written then second p, d.written, a.written, fe, named) (simp append_assoc),
     )
+
+-- numbers in a row
+pub ruleset numbered_in_row = (numbers_more, zero-add, append_assoc)

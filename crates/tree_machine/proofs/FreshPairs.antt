@@ -1,6 +1,6 @@
 -- Pairs of places in two lists: values that are written or appended on both sides keep them.
 use Rattle.std.proofs.Common.{arith, sym, ◌∙◌, inl, inr, length-append, length-set, add-zero}
-use Rattle.std.specs.Prelude.{◌≡◌, ℕ, ◌<◌, Bool, true, false, cond, nat_eq, List, [], ◌∷◌, ◌++◌, length, slice_get}
+use Rattle.std.specs.Prelude.{◌≡◌, ℕ, ◌<◌, Bool, cond, nat_eq, List, [], ◌∷◌, ◌++◌, length, slice_get}
 use Rattle.std.specs.Prelude.{slice_set, Option, Some, refl}
 use Rattle.std.proofs.lemmas.Bool.Decides.{eqb_tells}
 use Rattle.tree_machine.specs.Pairing.{IsAmong, IsOneToOne}
@@ -16,8 +16,7 @@ same_number P one x y a b p q = same_tests x y a b (one x y a b p q)
 -- of paired values, equal tests choose paired ones
 pub choices_paired : {A : Type 0} (R : A → A → Type 0) (b c : Bool) (x y u v : A) → b ≡ c → R x u → R y v
     → R (cond b x y) (cond c u v)
-choices_paired R b c x y u v e h k =
-    rw e (elim c as (λ c. R (cond c x y) (cond c u v)) [ true ↦ h | false ↦ k ])
+choices_paired R b c x y u v e h k = grind arith
 
 abbrev pub AreWithin : {A : Type 0} → (ℕ → ℕ → Type 0) → List A → List A → Type 0
 AreWithin P xs ys = (x y : ℕ) → P x y → (x < length xs) × (y < length ys)
@@ -40,20 +39,11 @@ paired_as T S xs ys x y r to h =
 
 module _ {A : Type 0} (P : ℕ → ℕ → Type 0) (xs ys : List A) (x y : ℕ) (a b : A) where
   pub within_set : AreWithin P xs ys → AreWithin P (slice_set xs x a) (slice_set ys y b)
-  within_set within v w p =
-      let r = within v w p in (omega (arith, length-set xs x a), omega (arith, length-set ys y b))
+  within_set within v w p = simp length-set (within v w p)
 
   pub paired_set : (T : Option A → Option A → Type 0) → IsOneToOne P → AreWithin P xs ys → P x y → T (Some a) (Some b)
       → AreValuesPaired P T xs ys → AreValuesPaired P T (slice_set xs x a) (slice_set ys y b)
-  paired_set T one within at new old v w p =
-      elim (eqb_tells v x) [
-        | inl e ↦
-            let r = within x y at in
-            rw (e.1, (one v w x y p at).0 e.1, get-set_same xs x a r.0, get-set_same ys y b r.1) new
-        | inr e ↦
-            let right = get-set_other ys y w b (λ f. e.1 ((one v w x y p at).1 f)) in
-            rw (get-set_other xs x v a e.1, right) (old v w p)
-      ]
+  paired_set T one within at new old v w p = grind (arith, eqb_tells, get-set_same, get-set_other)
 
 -- ---- a value is appended on both sides, and their places are paired
 
@@ -70,23 +60,16 @@ module _ {A : Type 0} (pairs : List (ℕ × ℕ)) (xs ys : List A) (within : Are
 
   pub fresh_one : IsOneToOne (IsAmong pairs) → IsOneToOne Fresh
   fresh_one one x y v w (inl e) (inl f) = (λ d. sym e.1 ∙ f.1, λ d. sym e.0 ∙ f.0)
-  fresh_one one x y v w (inl e) (inr q) = let r = within v w q in let c = e.0 in
-      let d = e.1 in (λ k. absurd (omega arith), λ k. absurd (omega arith))
-  fresh_one one x y v w (inr p) (inl e) = let r = within x y p in let c = e.0 in
-      let d = e.1 in (λ k. absurd (omega arith), λ k. absurd (omega arith))
+  fresh_one one x y v w (inl e) (inr q) = grind arith
+  fresh_one one x y v w (inr p) (inl e) = grind arith
   fresh_one one x y v w (inr p) (inr q) = one x y v w p q
 
   module _ (a b : A) where
     pub fresh_within : AreWithin Fresh (xs ++ a ∷ []) (ys ++ b ∷ [])
-    fresh_within x y (inl e) = let c = e.0 in
-        let d = e.1 in (omega (arith, length-append xs (a ∷ [])), omega (arith, length-append ys (b ∷ [])))
-    fresh_within x y (inr p) = let r = within x y p in
-        (omega (arith, length-append xs (a ∷ [])), omega (arith, length-append ys (b ∷ [])))
+    fresh_within x y (inl e) = simp length-append (omega arith, omega arith)
+    fresh_within x y (inr p) = let r = within x y p in simp length-append (omega arith, omega arith)
 
     pub fresh_paired : (T : Option A → Option A → Type 0) → T (Some a) (Some b)
         → AreValuesPaired (IsAmong pairs) T xs ys → AreValuesPaired Fresh T (xs ++ a ∷ []) (ys ++ b ∷ [])
-    fresh_paired T new old x y (inl e) =
-        rw (← e.0, ← e.1, get_last xs a, get_last ys b) new
-    fresh_paired T new old x y (inr p) =
-        let r = within x y p in
-        rw (get_front xs (a ∷ []) x r.0, get_front ys (b ∷ []) y r.1) (old x y p)
+    fresh_paired T new old x y (inl e) = grind (arith, get_last)
+    fresh_paired T new old x y (inr p) = grind (arith, get_front)

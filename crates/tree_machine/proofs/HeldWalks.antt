@@ -1,8 +1,7 @@
 -- A walk from what the threads hold, behind a front: they are written, and what only they lead to is left.
 use Rattle.std.proofs.Common.{◌≡◌, ℕ, suc, ◌+◌, ◌<◌, List, [], ◌∷◌, ◌++◌, map, length, take, drop, refl, sym, ◌∙◌, ap}
-use Rattle.std.proofs.Common.{arith, append_assoc, append-nil, length-append, add-zero, zero, ◌≤◌, subst, inl, inr}
-use Rattle.std.proofs.Common.{add-one, ◌-◌, Bool, false}
-use Rattle.std.specs.Prelude.{slice_get, Some, None, Result, Ok, Err, OnOk, Option}
+use Rattle.std.proofs.Common.{arith, append_assoc, append-nil, length-append, add-zero, zero, ◌≤◌, inl, inr, add-one}
+use Rattle.std.proofs.Common.{◌-◌, Bool, false, ◌⊎◌, slice_get, Some, None, Result, Ok, Err, OnOk, Option, length-take}
 use Rattle.std.proofs.Math.Seq.{drop-append_seam, take-append_seam, drop-length}
 use Rattle.std.proofs.lemmas.List.{length-map, map-append, nil_from_length}
 use Rattle.std.proofs.lemmas.List.Elements.{All-nil, recursion_from_All}
@@ -16,7 +15,7 @@ use Rattle.tree_machine.specs.Flat.{behind_code, graph_code, left_code}
 use Rattle.tree_machine.specs.Graphs.{numbers_from}
 use Rattle.tree_machine.specs.Parts.{Part, Parts, part_at, part_cell, parts_graph, parts_held, ArePartsInRange}
 use Rattle.tree_machine.specs.Parts.{IsPartBelow}
-use Rattle.tree_machine.specs.Laws.Canonical.{front_met, front_roots}
+use Rattle.tree_machine.specs.Laws.Canonical.{front_met, front_roots, roots_behind}
 use Rattle.tree_machine.specs.Laws.CellOrder.{Extends, get_append, HasAll, all_has}
 use Rattle.tree_machine.specs.Laws.Graphs.{length-numbers_from}
 use Rattle.tree_machine.specs.Laws.MetLists.{nodes_first, number_at, records_first, filter_none, test_other}
@@ -25,22 +24,21 @@ use Rattle.tree_machine.specs.Laws.PartCells.{held_at, node_at, record_at, lengt
 use Rattle.tree_machine.specs.Laws.PartsBy.{AreMet, IsPartMet}
 use Rattle.tree_machine.specs.Laws.CellPlaces.{has_at}
 use Rattle.tree_machine.specs.Laws.CellLists.{numbers_all}
-use Rattle.tree_machine.proofs.Codings.{met_newly, nodes_extend, records_extend, parts_written, left_some, met_old}
+use Rattle.tree_machine.proofs.Codings.{met_newly, numbers_extend, parts_written, left_some, met_old}
 use Rattle.tree_machine.proofs.Lists.{get-append_right, get_at, get-append_cases, get-map}
-use Rattle.tree_machine.proofs.NamesMet.{nodes_append, records_append, nodes_extend as met_nodes_extend}
-use Rattle.tree_machine.proofs.NamesMet.{records_extend as met_records_extend}
+use Rattle.tree_machine.proofs.NamesMet.{nodes_append, records_append, extends_by}
 use Rattle.tree_machine.proofs.Trails.{met_in_ended, met_in_within, walk_next}
-use Rattle.tree_machine.proofs.VisitedParts.{part_below}
-
--- the roots of a walk behind these nodes and records
-abbrev pub roots_of : Parts → List ℕ → List ℕ → List ℕ
-roots_of s nodes records =
-    as_cells (length s.nodes) nodes records ++ numbers_from (length (parts_graph s)) (length (parts_held s))
+use Rattle.tree_machine.proofs.VisitedParts.{part_within}
 
 -- what follows from both, if there is a value
 pub ok_both : {T E P Q R : Type 0} (r : Result T E) → (P → Q → R) → OnOk r P → OnOk r Q → OnOk r R
 ok_both (Ok x) f p q = f p q
 ok_both (Err e) f p q = tt
+
+-- the lesser of a front and of all parts is how many parts the front takes
+pub taken : {f r a b : ℕ} (ps : List Part) → (r ≤ a) × (r ≤ b) → (r ≡ a) ⊎ (r ≡ b) → a ≡ f → b ≡ length ps
+    → r ≡ length (take f ps)
+taken {f} ps least one front all = grind (arith, length-take f ps)
 
 -- a coder that has numbered the front
 pub record HasFront (fixed : ℕ) (s : Parts) (c : Coding) : Type 0 where
@@ -59,11 +57,6 @@ met_all_old (None ∷ refs) order h = met_all_old refs order h
 met_all_old (Some x ∷ refs) order h =
     ap (λ o. met_all o refs) (met_old order x h.0) ∙ met_all_old refs order h.1
 
--- names that have numbers get no others
-names_old : (c : Coding) (p : Part) → IsPartMet c.nodes c.records p → with_part c p ≡ c
-names_old c p h =
-    rw (met_all_old p.nodes c.nodes h.0, met_all_old p.records c.records h.1) (simp (drop-length, append-nil))
-
 module _ {fixed : ℕ} (s : Parts) (range : ArePartsInRange fixed s) (c : Coding)
     (met : AreMet fixed s c.nodes c.records) (more : List ℕ) where
   abbrev front : List ℕ
@@ -79,7 +72,7 @@ module _ {fixed : ℕ} (s : Parts) (range : ArePartsInRange fixed s) (c : Coding
             let has = has_at c.nodes k x e in (
               part_at s.nodes x,
               node_at s x (all_has _ c.nodes met.nodes_below x has),
-              part_below s.nodes x refl refl range.nodes,
+              part_within s.nodes x (omega arith) (omega arith) range.nodes,
               met.nodes_closed x has,
             )
         | inr e ↦
@@ -88,7 +81,7 @@ module _ {fixed : ℕ} (s : Parts) (range : ArePartsInRange fixed s) (c : Coding
               part_at s.records y.0,
               ap (content_at (parts_graph s ++ parts_held s)) y.2
                   ∙ record_at s y.0 (all_has _ c.records met.records_below y.0 has),
-              part_below s.records y.0 refl refl range.records,
+              part_within s.records y.0 (omega arith) (omega arith) range.records,
               met.records_closed y.0 has,
             )
       ]
@@ -100,9 +93,11 @@ module _ {fixed : ℕ} (s : Parts) (range : ArePartsInRange fixed s) (c : Coding
   front_walked w (suc k) l =
       let x = get_at front k (omega arith) in
       let p = front_part k x.0 x.1 in
+      let same : with_part c p.0 ≡ c =
+      rw (met_all_old p.0.nodes c.nodes p.3.0, met_all_old p.0.records c.records p.3.1)
+      (simp (drop-length, append-nil)) in
       rw (← add-one k)
-      (subst (IsWalk s (front ++ more) (front ++ more) (k + 1)) (names_old c p.0 p.3)
-      (walk_next s (front ++ more) (front ++ more) k c x.0 p.0 (front_walked w k (omega arith))
+      (rw same at (walk_next s (front ++ more) (front ++ more) k c x.0 p.0 (front_walked w k (omega arith))
       (get_append (front ++ more) c.queue k x.0 (get_append front more k x.0 x.1)) p.1 p.2))
 
 -- ---- parts that are visited one behind the other
@@ -176,7 +171,7 @@ module _ {fixed : ℕ} {s : Parts} {old : Coding} (h : HasFront fixed s old) whe
 
   -- the roots of the walk, and all cells
   abbrev pub roots : List ℕ
-  roots = roots_of s old.nodes old.records
+  roots = roots_behind s old.nodes old.records
 
   abbrev cells : List Content
   cells = parts_graph s ++ parts_held s
@@ -189,14 +184,10 @@ module _ {fixed : ℕ} {s : Parts} {old : Coding} (h : HasFront fixed s old) whe
 
   -- the roots have the nodes and the records of the front
   root_nodes : nodes_met (length s.nodes) roots ≡ old.nodes
-  root_nodes =
-      rw (nodes_first (length s.nodes) (length s.records) old.nodes old.records _ met.nodes_below, held_no_nodes s)
-      (append-nil old.nodes)
+  root_nodes = grind (arith, nodes_first, met, held_no_nodes, append-nil)
 
   root_records : records_met (length s.nodes) (length s.records) roots ≡ old.records
-  root_records =
-      records_first (length s.nodes) (length s.records) old.nodes old.records _ met.nodes_below met.records_below
-      ∙ rw (held_no_records s) (append-nil old.records)
+  root_records = grind (arith, records_first, met, held_no_records, append-nil)
 
   -- what the threads hold is visited behind the front
   held_walked : IsWalk s roots roots (length roots) held
@@ -213,7 +204,7 @@ module _ {fixed : ℕ} {s : Parts} {old : Coding} (h : HasFront fixed s old) whe
         m + i,
         get-append_right front (numbers_from m k) i (m + i) (number_at m k i (omega arith)),
         held_at s i l,
-        part_below s.held i refl refl h.in_range.held,
+        part_within s.held i (omega arith) (omega arith) h.in_range.held,
       ))
       (front_walked s h.in_range c met (numbers_from m k)
       (record {
@@ -231,12 +222,12 @@ module _ {fixed : ℕ} {s : Parts} {old : Coding} (h : HasFront fixed s old) whe
     more_nodes : Extends held.nodes d.nodes
     more_nodes =
         rw (held_walked.nodes, w.nodes, held_walked.met, all)
-        (met_nodes_extend (length s.nodes) (met_in_within cells roots rooted (length roots)))
+        (extends_by (nodes_met _) (nodes_append _) (met_in_within cells roots rooted (length roots)))
 
     more_records : Extends held.records d.records
     more_records =
         rw (held_walked.records, w.records, held_walked.met, all)
-        (met_records_extend (length s.nodes) (length s.records) (met_in_within cells roots rooted (length roots)))
+        (extends_by (records_met _ _) (records_append _ _) (met_in_within cells roots rooted (length roots)))
 
     -- it has numbered the front, and then what is in its queue
     all_nodes : d.nodes ≡ old.nodes ++ nodes_met (length s.nodes) d.queue
@@ -285,8 +276,8 @@ module _ {fixed : ℕ} {s : Parts} {old : Coding} (h : HasFront fixed s old) whe
       grind (
         arith,
         some,
-        ap length (nodes_extend c s.held).is,
-        ap length (records_extend c s.held).is,
+        ap length (numbers_extend c s.held).0.is,
+        ap length (numbers_extend c s.held).1.is,
         ap length (more_nodes w w.met).is,
         ap length (more_records w w.met).is,
         ap length (all_nodes w w.met),
@@ -297,15 +288,13 @@ module _ {fixed : ℕ} {s : Parts} {old : Coding} (h : HasFront fixed s old) whe
       behind_written w w.met bytes first (put ∙ ap (λ l. then ++ l) (sym (left_some _ _ some_left)))
 
   -- the nodes and the records that had numbers before are those of the front
-  pub front_kept : roots_of s (take (length old.nodes) held.nodes) (take (length old.records) held.records) ≡ roots
+  pub front_kept : roots_behind s (take (length old.nodes) held.nodes) (take (length old.records) held.records) ≡ roots
   front_kept =
-      rw ((nodes_extend c s.held).is, (records_extend c s.held).is, take-append_seam old.nodes)
-      (rw (take-append_seam old.records))
+      let more = numbers_extend c s.held in
+      rw (more.0.is, more.1.is, take-append_seam old.nodes) (rw (take-append_seam old.records))
 
   -- the visits of what the threads hold are the first of a walk from these roots
   pub walk_begun : IsRooted cells roots × (IsWalk s roots roots (length roots) held
       × ((length old.nodes ≡ length (nodes_met held.nodes_below roots))
       × (length old.records ≡ length (records_met held.nodes_below held.records_below roots))))
-  walk_begun =
-      rw (held_walked.nodes_below, held_walked.records_below)
-      (rooted, (held_walked, (ap length (sym root_nodes), ap length (sym root_records))))
+  walk_begun = grind (arith, held_walked, rooted, root_nodes, root_records)

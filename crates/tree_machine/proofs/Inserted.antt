@@ -1,8 +1,7 @@
 -- A key is inserted into a list of nodes: behind them come a leaf for the key and an internal node over it, which takes
 -- the place of the leaf where the search for the key ends.
-use Rattle.std.proofs.Common.{arith, sym, ◌∙◌, ap, ◌⊎◌, inl, inr}
-use Rattle.std.specs.Prelude.{◌≡◌, ◌≢◌, ℕ, ◌+◌, ◌<◌, ◌≤◌, min, max, if◌then◌else◌, nat_lt, List, ◌++◌, length, refl}
-use Rattle.std.specs.Prelude.{Option, Some, unwrap_or, slice_get, slice_set}
+use Rattle.std.proofs.Common.{arith, sym, ◌∙◌, ap, ◌⊎◌, inl, inr, ◌≡◌, ◌≢◌, ℕ, ◌+◌, ◌<◌, ◌≤◌, min, max, if◌then◌else◌}
+use Rattle.std.proofs.Common.{nat_lt, List, ◌++◌, length, refl, Option, Some, unwrap_or, slice_get, slice_set}
 use Rattle.std.specs.Option.{option_map}
 use Rattle.std.proofs.lemmas.Bool.{cases_lt}
 use Rattle.std.proofs.lemmas.Option.{slice_get_within}
@@ -49,21 +48,15 @@ module _ {Node : Type 0} (leaf : Node) (shape_in : Node → Shape) (key_in : Nod
   key_at nodes x = key_in (unwrap_or (slice_get nodes x) leaf)
 
   key_seen : (nodes : List Node) (x : ℕ) (s : Shape) → seen nodes x ≡ Some s → key_at nodes x ≡ key_of s
-  key_seen nodes x s e =
-      let t = map_some shape_in (slice_get nodes x) s e in
-      ap (λ o. key_in (unwrap_or o leaf)) t.1 ∙ (key_is t.0 ∙ ap key_of (sym t.2))
+  key_seen nodes x s e = grind (arith, map_some, unwrap_or)
 
   -- what is seen in a list is seen in front of more, and behind others
   in_front : (nodes more : List Node) (x : ℕ) (s : Shape) → seen nodes x ≡ Some s → seen (nodes ++ more) x ≡ Some s
-  in_front nodes more x s e =
-      let t = map_some shape_in (slice_get nodes x) s e in
-      ap (option_map shape_in) (get-append_left nodes more x t.0 t.1) ∙ ap Some (sym t.2)
+  in_front nodes more x s e = grind (arith, map_some, get-append_left)
 
   behind : (nodes more : List Node) (i : ℕ) (s : Shape) → seen more i ≡ Some s
       → seen (nodes ++ more) (length nodes + i) ≡ Some s
-  behind nodes more i s e =
-      let t = map_some shape_in (slice_get more i) s e in
-      ap (option_map shape_in) (get-append_right nodes more i t.0 t.1) ∙ ap Some (sym t.2)
+  behind nodes more i s e = grind (arith, map_some, get-append_right)
 
   -- among new nodes there is first a leaf for the key, and an internal node over it and over the other leaf: that where
   -- the search ends, or a copy of it
@@ -113,13 +106,7 @@ module _ {Node : Type 0} (leaf : Node) (shape_in : Node → Shape) (key_in : Nod
 
     other_leaf : (m l r j : ℕ) → seen nodes end.parent ≡ Some (Internal m l r) → seen nodes end.leaf ≡ Some (Leaf j)
         → after other ≡ Some (Leaf j)
-    other_leaf m l r j e at =
-        elim are.beside [
-          | inl same ↦ rw same (kept end.leaf (Leaf j) (λ one. cc (one, at, e)) at)
-          | inr copy ↦
-              rw (key_seen nodes end.leaf (Leaf j) at)
-              at (fresh copy.0 other _ copy.1 (within end.parent (Internal m l r) e) copy.2)
-        ]
+    other_leaf m l r j e at = grind (arith, kept, key_seen, fresh, within)
 
     over : (m l r j low high : ℕ) → seen nodes end.parent ≡ Some (Internal m l r)
         → seen nodes end.leaf ≡ Some (Leaf j) → key ≢ j → low ≤ key → key < high → low ≤ j → j < high

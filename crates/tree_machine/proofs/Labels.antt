@@ -1,12 +1,10 @@
 -- Labels, what is copied from the bytes of a state by their offsets, and states that were read from labels.
-use Rattle.std.proofs.Common.{◌≡◌, ◌≤◌, ℕ, List, ◌∷◌, ◌++◌, length, map, take, refl, ◌+◌, ◌-◌, Bool, true, false, []}
+use Rattle.std.proofs.Common.{◌≡◌, ◌≤◌, ℕ, List, ◌++◌, length, take, refl, ◌+◌, ◌-◌, Bool, true, false, []}
 use Rattle.std.proofs.Common.{drop, Option, sym, ap, ◌∙◌, arith, append_assoc, if◌then◌else◌, length-append}
-use Rattle.std.specs.List.{flat_map}
-use Rattle.std.proofs.lemmas.List.{length-map, take_all, append-nil}
-use Rattle.std.proofs.lemmas.List.Folds.{flat_map-map}
+use Rattle.std.proofs.lemmas.List.{length-map, append-nil}
 use Rattle.std.specs.Prelude.{IsTrue}
 use Rattle.std.proofs.Math.Seq.{drop-append_seam, take-append_seam}
-use Rattle.tree_machine.specs.FormCode.{list_code, cut_code, op_log_code, label_code, content_code, state_code}
+use Rattle.tree_machine.specs.FormCode.{cut_code, op_log_code, label_code, content_code, state_code}
 use Rattle.tree_machine.specs.Alike.{notes_of, places_of, replies_of, FormContent}
 use Rattle.tree_machine.specs.Offsets.{AreOffsetsOf, op_log_of, IsReadFrom}
 use Rattle.tree_machine.specs.Flat.{number_code}
@@ -18,18 +16,10 @@ use Rattle.tree_machine.specs.declared.naming.Naming.{Naming}
 use Rattle.tree_machine.specs.declared.naming.Naming.TheVariants.{Own, Canonical}
 use Rattle.tree_machine.specs.declared.state.State.{State}
 use Rattle.tree_machine.specs.InRange.{AreNumbersInRange}
+use Rattle.tree_machine.proofs.Forms.{held_in_range}
 use Rattle.tree_machine.specs.Rules.{Rules}
 use Rattle.tree_machine.specs.Laws.Flat.{number_split}
 use Rattle.tree_machine.specs.Laws.FormCode.{content_readable}
-
--- a field of each of several values
-module _ {A B : Type 0} (code : B → List ℕ) (of : A → B) where
-  -- how many values there are, and the field of each, are the list of the fields
-  pub fields_coded : (xs : List A) {i : ℕ} (before : List ℕ) {after : List ℕ}
-      → after ≡ before ++ length xs ∷ flat_map (λ x. code (of x)) (take i xs) → length xs ≤ i
-      → after ≡ before ++ list_code code (map of xs)
-  fields_coded xs {i} before put within =
-      rw (put, take_all i xs within, length-map xs of, flat_map-map code of xs) refl
 
 -- what is between two places of a list in three pieces
 piece_between : {X : Type 0} (a b c : List X) {xs : List X} {from to : ℕ} → xs ≡ a ++ (b ++ c) → from ≡ length a
@@ -65,16 +55,12 @@ module _ {Memory Place : Type 0} (front_code : Front → Memory → List ℕ)
       (are : AreOffsetsOf front_code behind_code stated offsets source) where
     -- the cuts are in order, within the bytes
     held_within : offsets.held ≤ length stated
-    held_within =
-        third_ends (number_code source.steps) (op_log_of source) (front_code offsets.front source.memory)
-        (behind_code offsets.front source.memory (places_of source.threads)) are.written are.op_log are.memory are.held
+    held_within = search (arith, third_ends)
 
     pub offsets_in_order : (same : Bool) (to : ℕ) → to ≡ (if same then offsets.held else offsets.memory)
         → (offsets.op_log ≤ to) × (offsets.memory ≤ to) × (to ≤ length stated)
-    offsets_in_order true to e =
-        (omega (arith, e, are.memory, are.held), omega (arith, e, are.held), omega (arith, e, held_within))
-    offsets_in_order false to e =
-        (omega (arith, e, are.memory), omega (arith, e), omega (arith, e, are.held, held_within))
+    offsets_in_order true to e = grind (arith, held_within)
+    offsets_in_order false to e = grind (arith, held_within)
 
     -- the bytes of the memory, if they are asked for
     pub memory_piece : (mem : Memory) (same : Bool) (to : ℕ) → (IsTrue same → mem ≡ source.memory)
@@ -121,9 +107,7 @@ module _ {Machine Memory Place Form : Type 0} (naming : Naming) (own_code : Memo
       → third ≡ second ++ code_by naming (own_code state.memory (places_of threads))
       (form_code (form_of state.memory (places_of threads)))
       → lent ≡ third → copy ≡ lent → copy ≡ label_code naming own_code form_code form_of state
-  label_put h k n f s t l p =
-      rw (p, l, t, s, f, n, h, k)
-      (append_assoc (number_code _) (op_log_of state) _ ∙ label_is naming own_code form_code form_of state)
+  label_put h k n f s t l p = grind (arith, append_assoc, label_is)
 
   -- a state that was read from the label of another has its memory from the code in that
   pub read_from : (rules : Rules Memory Place) (cut : Memory → List (Option Place) → List ℕ)
@@ -149,3 +133,6 @@ module _ {Machine Memory Place Form : Type 0} (naming : Naming) (own_code : Memo
         many = simp length-map (simp length-map at replies);
         same = ap (λ m. cut m (places_of source.threads)) same ∙ ap (λ (c : FormContent (List ℕ)). c.form) stated;
       }
+
+-- a label, and the places in it
+pub ruleset label_pieces = (held_in_range, label_put)

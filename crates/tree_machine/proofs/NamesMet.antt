@@ -1,12 +1,11 @@
 -- Names of nodes and of records that a walk meets: what is new among them comes behind what was met.
-use Rattle.std.proofs.Common.{refl, ◌≡◌, ℕ, ◌+◌, ◌<◌, true, false, cond, List, [], ◌∷◌, ◌++◌, map, sym, ◌∙◌, ap, arith}
-use Rattle.std.proofs.Common.{append_assoc, append-nil}
-use Rattle.std.specs.Prelude.{Option, Some, None, nat_eq, nat_lt}
+use Rattle.std.proofs.Common.{◌≡◌, ℕ, ◌+◌, ◌<◌, true, false, cond, List, [], ◌∷◌, ◌++◌, map, sym, ◌∙◌, ap, arith}
+use Rattle.std.proofs.Common.{append_assoc, append-nil, Option, Some, None, nat_eq, nat_lt, map-id}
 use Rattle.std.specs.List.{All, list_any}
 use Rattle.std.specs.Option.{option_map}
 use Rattle.std.proofs.Math.Seq.{drop-append_seam}
 use Rattle.std.proofs.lemmas.Iterator.Adapters.{option_map_id}
-use Rattle.std.proofs.lemmas.List.{map-append, map-id}
+use Rattle.std.proofs.lemmas.List.{map-append}
 use Rattle.std.proofs.lemmas.List.Elements.{All-append, All-cons, All-map, All-nil, All-weaker, filter-append}
 use Rattle.std.proofs.lemmas.List.Elements.{recursion_from_All}
 use Rattle.std.proofs.lemmas.List.Folds.{list_any-append}
@@ -28,8 +27,7 @@ AreAlike f b m xs = (y : ℕ) → y < b → list_any (nat_eq (f y)) m ≡ list_a
 
 module _ (f : ℕ → ℕ) (one : (x y : ℕ) → f x ≡ f y → x ≡ y) (b : ℕ) where
   alike_more : (m xs : List ℕ) (x : ℕ) → AreAlike f b m xs → AreAlike f b (m ++ f x ∷ []) (xs ++ x ∷ [])
-  alike_more m xs x h y l =
-      rw (list_any-append, list_any-append, h y l, same_tests (f y) y (f x) x (one y x, λ e. ap f e)) refl
+  alike_more m xs x h y l = grind (arith, list_any-append, same_tests)
 
   -- from now and then on, refs add the same numbers to xs, and raised to m
   abbrev AddNew : (xs now m then : List ℕ) → List (Option ℕ) → Type 0
@@ -83,13 +81,9 @@ module _ (n r : ℕ) (nodes records : List ℕ) (below : All (λ x. x < n) nodes
       at (records_first n r nodes records [] (recursion_from_All _ _ below) (recursion_from_All _ _ h))
 
 -- what is met later comes behind
-pub nodes_extend : {xs ys : List ℕ} (n : ℕ) → Extends xs ys → Extends (nodes_met n xs) (nodes_met n ys)
-nodes_extend {xs} n e =
-    record { rest = nodes_met n e.rest; is = ap (nodes_met n) e.is ∙ nodes_append n xs e.rest }
-
-pub records_extend : {xs ys : List ℕ} (n r : ℕ) → Extends xs ys → Extends (records_met n r xs) (records_met n r ys)
-records_extend {xs} n r e =
-    record { rest = records_met n r e.rest; is = ap (records_met n r) e.is ∙ records_append n r xs e.rest }
+pub extends_by : {xs ys : List ℕ} (keep : List ℕ → List ℕ)
+    → ((old new : List ℕ) → keep (old ++ new) ≡ keep old ++ keep new) → Extends xs ys → Extends (keep xs) (keep ys)
+extends_by {xs} keep append e = record { rest = keep e.rest; is = ap keep e.is ∙ append xs e.rest }
 
 -- ---- what a part names
 
@@ -106,25 +100,24 @@ pub record IsPartMet (n r : ℕ) (p : Part) (m : List ℕ) : Type 0 where
 
 -- that is what the names of a part do that names what there is
 pub part_met : (n r : ℕ) (p : Part) (m : List ℕ) → IsPartBelow n r p → IsPartMet n r p m
-part_met n r p m h =
-    record {
-      cells =
-          met_all_append m p.nodes raised ∙ ap (λ o. met_all o raised) nodes_first ∙ others.1
-          ∙ append_assoc m new (map (λ x. n + x) more);
-      nodes =
-          cc (met_newly (nodes_met n m) p.nodes, nodes_of n r new more nodes.0, nodes_append n m (as_cells n new more));
-      records =
-          cc (
-            met_newly (records_met n r m) p.records,
-            records_of n r new more nodes.0 others.0,
-            records_append n r m (as_cells n new more),
-          );
-      below =
-          All-append (λ x. x < n + r) new (map (λ x. n + x) more)
-          (All-weaker (λ x. x < n) (λ x. x < n + r) (λ x l. omega arith) new nodes.0)
-          (All-map (λ x. x < n + r) (λ x. n + x) more
-          (All-weaker (λ x. x < r) (λ x. n + x < n + r) (λ x l. omega arith) more others.0));
-    }
+part_met n r p m h = record {
+  cells =
+      met_all_append m p.nodes raised ∙ ap (λ o. met_all o raised) nodes_first ∙ others.1
+      ∙ append_assoc m new (map (λ x. n + x) more);
+  nodes =
+      cc (met_newly (nodes_met n m) p.nodes, nodes_of n r new more nodes.0, nodes_append n m (as_cells n new more));
+  records =
+      cc (
+        met_newly (records_met n r m) p.records,
+        records_of n r new more nodes.0 others.0,
+        records_append n r m (as_cells n new more),
+      );
+  below =
+      All-append (λ x. x < n + r) new (map (λ x. n + x) more)
+      (All-weaker (λ x. x < n) (λ x. x < n + r) (λ x l. omega arith) new nodes.0)
+      (All-map (λ x. x < n + r) (λ x. n + x) more
+      (All-weaker (λ x. x < r) (λ x. n + x < n + r) (λ x l. omega arith) more others.0));
+}
   where
     new : List ℕ
     new = newly (nodes_met n m) p.nodes

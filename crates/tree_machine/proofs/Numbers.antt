@@ -1,8 +1,7 @@
 -- Each cell's place as its number, and few cells met, by the numbers that refer to them.
 use Rattle.std.proofs.Common.{◌≡◌, ℕ, zero, suc, ◌+◌, ◌-◌, ◌<◌, Bool, false, true, cond, not, List, [], ◌∷◌, ◌++◌, map}
 use Rattle.std.proofs.Common.{length, refl, sym, ◌∙◌, ap, subst, inl, inr, arith, get_or, set, take, append_assoc}
-use Rattle.std.proofs.Common.{length-append, length-set}
-use Rattle.std.specs.Prelude.{slice_get, replicate, Option, Some, None, nat_eq, IfSome}
+use Rattle.std.proofs.Common.{length-append, length-set, slice_get, replicate, Option, Some, None, nat_eq, IfSome}
 use Rattle.std.specs.List.{All, IsDistinct, list_any}
 use Rattle.std.specs.Option.{option_and_then, option_map}
 use Rattle.std.proofs.Math.ListN.{get_or-map}
@@ -29,9 +28,7 @@ use Rattle.tree_machine.proofs.Lists.{get-set_same, get-set_other}
 
 -- a cell with no place was not met
 absent : (order : List ℕ) (x : ℕ) → place_in order x ≡ None → list_any (nat_eq x) order ≡ false
-absent order x e =
-    false_from_ne_true (list_any (nat_eq x) order) (λ h.
-    let k = place_from_has order x h in cc (e, k.1))
+absent order x e = grind (arith, false_from_ne_true, nat_eq, place_from_has)
 
 -- it is met by putting it at the end
 pub met_new : (order : List ℕ) (x : ℕ) → place_in order x ≡ None → order ++ x ∷ [] ≡ met order x
@@ -56,19 +53,12 @@ place_kept (z ∷ order) x y h = rw (place_kept order x y h) refl
 places_push : (order : List ℕ) (numbers : List (Option ℕ)) (x : ℕ) → HasPlaces order numbers → x < length numbers
     → place_in order x ≡ None → HasPlaces (order ++ x ∷ []) (set numbers x (Some (length order)))
 places_push order numbers x h l e k m =
-    let number = Some (length order) in
-    elim (eqb_tells k x) [
-      | inl t ↦ rw (t.1, get-set_same numbers x number l, place_push order x (absent order x e)) refl
-      | inr t ↦
-          rw (get-set_other numbers x k number t.1, place_kept order x k t.1)
-          (h k (omega (arith, m, length-set numbers x number)))
-    ]
+    grind (arith, eqb_tells, get-set_same, place_push, absent, get-set_other, place_kept, length-set)
 
 -- a cell that is met for the first time is at the end
 pub place_new : (order : List ℕ) (x : ℕ) {n : ℕ} → place_in order x ≡ None → n ≡ length order
     → place_in (met order x) x ≡ Some n
-place_new order x e is_length =
-    ap (λ o. place_in o x) (sym (met_new order x e)) ∙ place_push order x (absent order x e) ∙ ap Some (sym is_length)
+place_new order x e is_length = grind (arith, met_new, place_push, absent)
 
 module _ (order : List ℕ) (numbers : List (Option ℕ)) {x : ℕ} {r : Option ℕ} (h : HasPlaces order numbers)
     (l : x < length numbers) (e : r ≡ get_or numbers x r) where
@@ -91,8 +81,7 @@ module _ (order : List ℕ) (numbers : List (Option ℕ)) {x : ℕ} {r : Option 
   -- the numbers after a cell was met for the first time
   pub places_met : {after : List ℕ} {n : ℕ} → r ≡ None → n ≡ length order → after ≡ order ++ x ∷ []
       → HasPlaces after (set numbers x (Some n))
-  places_met none is_length is_after =
-      simp (is_length, is_after) (places_push order numbers x h l (place_absent none))
+  places_met none is_length is_after = grind (arith, places_push, place_absent)
 
 -- the step of a loop that renames refs
 module _ (order : List ℕ) {refs seen done : List (Option ℕ)} {i : ℕ} {s : Option ℕ} (same : seen ≡ refs)
@@ -106,11 +95,7 @@ module _ (order : List ℕ) {refs seen done : List (Option ℕ)} {i : ℕ} {s : 
   pub rename_some : (numbers : List (Option ℕ)) {x : ℕ} {r : Option ℕ} → HasPlaces order numbers
       → All (λ r. IfSome r (λ x. x < length numbers)) refs → get_or seen i None ≡ Some x → s ≡ r
       → r ≡ get_or numbers x r → done ++ s ∷ [] ≡ map (option_and_then (place_in order)) (take (i + 1) refs)
-  rename_some numbers {x} places range e f g =
-      let at : get_or refs i None ≡ Some x = ap (λ l. get_or l i None) (sym same) ∙ e in
-      rename_next (f ∙ (number_is order numbers places
-      (subst (λ r. IfSome r (λ x. x < length numbers)) at (range i None l)) g
-      ∙ ap (option_and_then (place_in order)) (sym e)))
+  rename_some numbers {x} places range e f g = grind (arith, rename_next, number_is)
 
 -- ---- few cells met, by their numbers
 
@@ -142,8 +127,7 @@ nothing_twice e = subst (IsDistinct nat_eq) (sym e) distinct_none
 -- nothing is met in a list that was rebuilt, or that is left as it was where its growth was refused
 pub made_or_left : (t : Bool) {order old new : List ℕ} (n : ℕ) {len : ℕ} → order ≡ [] → old ≡ [] → len ≡ 0
     → new ≡ cond t (take n old ++ replicate (n - len) 0) old → HasNumbers order new
-made_or_left true n is_none e z h = nothing_met n is_none
-    (h ∙ simp (e, z, take-nil) (ap (λ k. replicate k 0) (omega arith)))
+made_or_left true n is_none e z h = grind (arith, nothing_met, take-nil)
 made_or_left false n is_none e z h = nothing_met 0 is_none (h ∙ e)
 
 -- where a cell has no number, its number is 0
@@ -221,3 +205,8 @@ module _ (n : Numbering) where
         let next : place + 1 ≡ suc (length order) = omega (arith, is_length) in
         simp (is, next, map-set)
         (places_push order (map referred_to numbers) x n.has_numbers (within known) unmet)
+
+-- the places of a cell that is met, and what a cell is that gets a number
+pub ruleset placed = (place_absent, met_present, met_new, place_seen, place_new, places_met)
+
+pub ruleset assigned = (order_room, unmet, met_new)

@@ -8,9 +8,8 @@ use Rattle.std.proofs.lemmas.Option.{get_or_from_slice_get, same_Some, slice_get
 use Rattle.sched_program.specs.Program.{Program}
 use Rattle.tree_machine.specs.Alike.{replies_of, notes_of}
 use Rattle.tree_machine.specs.Offsets.{op_log_of}
-use Rattle.tree_machine.specs.FormCode.{op_log_code}
 use Rattle.tree_machine.specs.Rules.{Rules}
-use Rattle.tree_machine.specs.Step.{at_step, after_access, finished_counts, notes_at_step, ready, step, place_or}
+use Rattle.tree_machine.specs.Step.{at_step, after_access, notes_at_step, step, place_or}
 use Rattle.tree_machine.specs.declared.machine.Outcome.{Outcome}
 use Rattle.tree_machine.specs.declared.machine.Outcome.TheVariants.{Goes, Replies, Astray}
 use Rattle.tree_machine.specs.declared.state.Thread.{Thread}
@@ -50,8 +49,7 @@ module _ {Machine Memory Place Form : Type 0} (rules : Rules Memory Place) (prog
     (state next : State Machine Memory Place Form) (t : ℕ) (made : step rules program state t ≡ Some next) where
   -- a state that has a step is not astray
   pub source_not_astray : state.astray ≡ None
-  source_not_astray =
-      let whose = map_some _ (ready program state t) next made in (not_astray state.astray _ whose.0 whose.1).0
+  source_not_astray = grind (arith, map_some, not_astray)
 
   module _ {there here : Thread Place} (at_t : slice_get state.threads t ≡ Some there)
       (found : slice_get next.threads t ≡ Some here) (as_many : length here.replies ≡ length there.replies)
@@ -60,37 +58,13 @@ module _ {Machine Memory Place Form : Type 0} (rules : Rules Memory Place) (prog
     op_log_stays : (replies_of next.threads ≡ replies_of state.threads)
         × (notes_of next.threads ≡ notes_of state.threads)
     op_log_stays =
-        step_parts rules program _ state next t made (λ thread is op at_op stepped_is.
-        let same : thread ≡ there = same_Some _ _ (sym is ∙ at_t) in
-        let noted = noted thread.place thread.notes (finished_counts state.threads) in
-        let acted = rules.act op (place_or thread.place (rules.first op)) state.memory in
-        let parts = access_parts state t (at_step rules state op thread) acted in
-        let after = parts.0 in
-        let set : next.threads ≡ slice_set state.threads t after = rw stepped_is parts.2 in
-        let within = slice_get_within state.threads t there at_t in
-        let now : here ≡ after = same_Some _ _ (sym (rw set at found) ∙ get-set_same state.threads t after within) in
-        let replies = parts.3 ∙ ap (λ (x : Thread Place). x.replies ++ parts.1) same in
-        let notes = parts.4 ∙ noted.1 ∙ ap (λ (x : Thread Place). x.notes ++ noted.0) same in
-        rw set (
-          map-put (λ (x : Thread Place). x.replies) state.threads t after there at_t
-              (no_more there.replies parts.1 after.replies replies (rw now at as_many)),
-          map-put (λ (x : Thread Place). x.notes) state.threads t after there at_t
-              (no_more there.notes noted.0 after.notes notes (rw now at as_many_notes)),
-        ))
+        grind (arith, step_parts, same_Some, noted, access_parts, slice_get_within, get-set_same, map-put, no_more)
 
     -- and so are its bytes
     pub same_op_log : next.astray ≡ None → op_log_of next ≡ op_log_of state
-    same_op_log calm =
-        let astray = calm ∙ sym source_not_astray in
-        λ i. op_log_code (op_log_stays.0 i) (op_log_stays.1 i) (astray i)
+    same_op_log calm = grind (arith, source_not_astray, op_log_stays)
 
 -- ---- a step that is taken back
-
--- an element restored where another one had replaced it
-set_back : {X : Type 0} (xs : List X) (i : ℕ) (v x : X) → slice_get xs i ≡ Some v
-    → slice_set (slice_set xs i x) i v ≡ xs
-set_back xs i v x h =
-    rw (set-set xs i x v, ← get_or_from_slice_get xs i v v h) (set-get_or xs i v)
 
 module _ {Machine Memory Place Form : Type 0} where
   -- a state whose step is undone in its memory, its threads and its count
@@ -105,6 +79,7 @@ module _ {Machine Memory Place Form : Type 0} where
       let acted = rules.act op (place_or there.place (rules.first op)) source.memory in
       let parts = access_parts source t (at_step rules source op there) acted in
       let restored : threads ≡ source.threads =
-      rw (set, is, parts.2) (set_back source.threads t thread parts.0 was) in
+      rw (set, is, parts.2, set-set, ← get_or_from_slice_get source.threads t thread thread was)
+      (set-get_or source.threads t thread) in
       let steps : next.steps - 1 ≡ source.steps = rw (is, parts.5) (omega arith) in
       rw (m, restored, steps, ← source_not_astray rules program source next t made) refl)

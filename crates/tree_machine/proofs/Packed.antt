@@ -1,16 +1,18 @@
 -- What the types of replies and notes in bytes promise.
 use Rattle.std.proofs.Common.{◌≡◌, ℕ, ◌+◌, ◌*◌, ◌/◌, ◌%◌, ◌^◌, ◌<◌, ◌≤◌, List, [], ◌∷◌, ◌++◌, length, refl, sym, ◌∙◌}
-use Rattle.std.proofs.Common.{ap, ap₂, true, zero, suc, arith, eq-eqb, eqb-true, get_or, length-append}
-use Rattle.std.specs.Prelude.{Bool, nat_eq}
+use Rattle.std.proofs.Common.{ap, ap₂, true, zero, suc, arith, eq-eqb, eqb-true, get_or, length-append, Bool, nat_eq}
 use Rattle.std.specs.Cmp.{bool_eq_equiv}
 use Rattle.std.specs.Cmp.Lexicographic.{pointwise}
 use Rattle.std.proofs.lemmas.Cmp.{lists_equiv, nat_eq_equiv}
 use Rattle.std.proofs.lemmas.List.{get_or_past}
 use Rattle.std.proofs.lemmas.Nat.{shl_whole}
 use Rattle.sched_program.specs.Laws.Exact.{bool_exact, nat_exact, list_exact}
-use Rattle.tree_machine.specs.FormCode.{note_code}
-use Rattle.tree_machine.specs.Laws.Packed.{replies_back}
-use Rattle.tree_machine.specs.Laws.ShortNotes.{counts_short, counts_of_number, counts_at, digits_more}
+use Rattle.tree_machine.specs.Flat.{number_code}
+use Rattle.tree_machine.specs.FormCode.{note_code, replies_code}
+use Rattle.tree_machine.specs.Laws.SmallCodes.{small_code}
+use Rattle.std.proofs.lemmas.Nat.Bits.{shr_and_one}
+use Rattle.tree_machine.specs.Laws.Packed.{replies_back, reply_at}
+use Rattle.tree_machine.specs.Laws.ShortNotes.{counts_short, counts_of_number, counts_at, digits_more, number_of_counts}
 use Rattle.tree_machine.specs.Laws.ShortNotes.{length_of_number, number_below, one_count_more, short_of, short_parts}
 use Rattle.tree_machine.specs.Laws.StateExact.{same_answer}
 use Rattle.tree_machine.specs.Packed.{counts_in, is_short, note_number, replies_in, replies_number}
@@ -19,9 +21,7 @@ use mathlib.Core.Bool.{beq}
 module _ {A : Type 0} (eq : A → A → Bool) (same : (xs : List A) → pointwise eq xs xs ≡ true)
     (exact : (xs ys : List A) → pointwise eq xs ys ≡ true → xs ≡ ys) (read : ℕ → List A) (number : List A → ℕ) where
   read_same : (n m : ℕ) → number (read n) ≡ n → number (read m) ≡ m → nat_eq n m ≡ pointwise eq (read n) (read m)
-  read_same n m n_whole m_whole =
-      same_answer (nat_eq n m) (pointwise eq (read n) (read m)) (λ e. rw (← eqb-true n m e) (same (read n)))
-      (λ e. eq-eqb n m (sym n_whole ∙ (ap number (exact (read n) (read m) e) ∙ m_whole)))
+  read_same n m n_whole m_whole = grind (arith, same_answer, nat_eq, eqb-true, eq-eqb)
 
 -- numbers are equal where the replies are
 pub replies_same : (n m : ℕ) → 0 < n → n < 128 → 0 < m → m < 128
@@ -33,6 +33,11 @@ replies_same n m n_least n_below m_least m_below =
 pub notes_same : (n m : ℕ) → note_number (counts_in n) ≡ n → note_number (counts_in m) ≡ m
     → nat_eq n m ≡ pointwise nat_eq (counts_in n) (counts_in m)
 notes_same = read_same nat_eq (lists_equiv nat_eq_equiv).refl (list_exact nat_exact) counts_in note_number
+
+-- the byte of a number is the code of its replies
+pub code_of_replies : (n : ℕ) → 0 < n → n < 128 → replies_code (replies_in n) ≡ n ∷ []
+unfolding replies_code
+code_of_replies n least below = ap number_code (replies_back n least below) ∙ small_code n (omega arith)
 
 -- the two bytes of a number are the code of its note
 pub code_of_number : (n : ℕ) → note_number (counts_in n) ≡ n → note_code (counts_in n) ≡ n / 256 ∷ n % 256 ∷ []
@@ -79,9 +84,7 @@ module _ {n : ℕ} {counts : List ℕ} (whole : note_number (counts_in n) ≡ n)
         ap₂ (λ k m. k + (4096 + m)) is_number moved ∙ sym (one_count_more counts count room)
 
     longer_short : is_short (counts ++ count ∷ []) ≡ true
-    longer_short =
-        short_of (counts ++ count ∷ []) (omega (arith, length-append counts (count ∷ []), room))
-        (digits_more counts count (short_parts counts are_short).1 small)
+    longer_short = grind (arith, short_of, length-append, digits_more, short_parts, are_short)
 
     pub count_pushed : counts_in longer ≡ counts ++ count ∷ []
     count_pushed = ap counts_in longer_is ∙ counts_of_number (counts ++ count ∷ []) longer_short
@@ -91,3 +94,11 @@ module _ {n : ℕ} {counts : List ℕ} (whole : note_number (counts_in n) ≡ n)
 
     pub longer_whole : note_number (counts_in longer) ≡ longer
     longer_whole = ap note_number count_pushed ∙ sym longer_is
+
+-- what a note is to which a count is added
+pub ruleset note_push = (count_pushed, longer_below, longer_whole)
+
+-- what is read
+pub ruleset note_read = (code_of_number, number_of_counts)
+
+pub ruleset reply_got = (reply_at, shr_and_one)

@@ -1,17 +1,16 @@
 -- Walks that write what they visit: a graph in bytes behind counts that were put first, and the front of canonical
 -- parts.
-use Rattle.std.proofs.Common.{◌≡◌, ℕ, zero, suc, ◌+◌, ◌-◌, ◌<◌, ◌≤◌, ◌⊎◌, List, [], ◌∷◌, ◌++◌, length, take, refl, sym}
-use Rattle.std.proofs.Common.{◌∙◌, ap, subst, inl, inr, arith, append_assoc, append-nil, length-append, add-zero}
-use Rattle.std.proofs.Common.{add-suc, map, drop, ◌||◌}
-use Rattle.std.proofs.Math.Nat.{add_comm}
-use Rattle.std.specs.Prelude.{slice_get, Some, None, nat_eq}
+use Rattle.std.proofs.Common.{◌≡◌, ℕ, zero, suc, ◌+◌, ◌-◌, ◌<◌, ◌≤◌, List, [], ◌∷◌, ◌++◌, length, take, refl, sym, ◌∙◌}
+use Rattle.std.proofs.Common.{ap, subst, inl, inr, arith, append_assoc, append-nil, length-append, add-zero, add-suc}
+use Rattle.std.proofs.Common.{map, drop, ◌||◌, add_comm, slice_get, Some, None, nat_eq, take_all}
 use Rattle.std.specs.List.{All}
-use Rattle.std.proofs.lemmas.List.{map-append, take-append-le, take_all, take_more, length-map}
+use Rattle.std.proofs.lemmas.List.{map-append, take-append-le, take_more, length-map}
 use Rattle.std.proofs.lemmas.Grind.{flat_map-append}
 use Rattle.std.proofs.lemmas.List.Elements.{filter-append, All-append, recursion_from_All, All-nil}
 use Rattle.std.proofs.lemmas.Option.{slice_get_past, slice_get_within, get_or_from_slice_get}
 use Rattle.std.proofs.Math.Seq.{drop-append-add, take-append_seam}
 use Rattle.std.proofs.Math.Bool.{or-true}
+use Rattle.std.proofs.lemmas.Bool.{cases_lt}
 use Rattle.tree_machine.specs.Canonical.{nodes_met, records_met, renamed_part, canonical_parts, canonical_front}
 use Rattle.tree_machine.specs.Canonical.{front_nodes, front_order, front_records}
 use Rattle.tree_machine.specs.Cells.{Content, content_at, met_all, met_in, order_of, IsRooted}
@@ -33,7 +32,7 @@ use Rattle.tree_machine.specs.Laws.PartsBy.{IsPartMet}
 use Rattle.tree_machine.proofs.Codings.{renamed_kept, codes_append}
 use Rattle.tree_machine.proofs.Lists.{get-append_right}
 use Rattle.tree_machine.proofs.NamesMet.{new_cells, part_met, nodes_append, records_append, nodes_of, records_of}
-use Rattle.tree_machine.proofs.VisitedParts.{part_below}
+use Rattle.tree_machine.proofs.VisitedParts.{part_within}
 use Rattle.tree_machine.proofs.Walks.{met_in_done, met_in_next}
 
 -- ---- the order that a walk comes to
@@ -103,8 +102,7 @@ pub record IsTrail (s : Parts) (roots before : List ℕ) (k : ℕ) (front apart 
 -- before the first visit nothing is written
 pub trail_begun : {s : Parts} {roots before : List ℕ} {c : Coding} {bytes out : List ℕ}
     → IsWalk s roots before (length before) c → IsTrail s roots before 0 bytes out c bytes out
-trail_begun {bytes = bytes} {out = out} w =
-    record { walk = rw add-zero w; written = λ end e f. (sym (append-nil bytes), sym (append-nil out)) }
+trail_begun {bytes = bytes} {out = out} w = grind (arith, add-zero, append-nil)
 
 -- the visited cells of a queue, once the next one is visited
 visited_next : (c : Coding) (p : Part) (k x : ℕ) → slice_get c.queue k ≡ Some x
@@ -148,37 +146,33 @@ module _ {s : Parts} {roots before : List ℕ} {k : ℕ} {front apart : List ℕ
         → (x < c.nodes_below → IsVisited (part_at s.nodes x) c bytes d put × (then ≡ out))
         → (c.nodes_below ≤ x → IsVisited (part_at s.records (x - c.nodes_below)) c out d then × (put ≡ bytes))
         → IsTrail s roots before (k + 1) front apart d put then
-    trail_next d put then node rest = go (grind arith)
-      where
-        n : ℕ
-        n = length s.nodes
-
-        go : (x < c.nodes_below) ⊎ (c.nodes_below ≤ x) → IsTrail s roots before (k + 1) front apart d put then
-        go (inl l) =
-            let p = part_at s.nodes x in
-            let within : x < n = omega (arith, t.walk.nodes_below) in
-            let e = node l in
-            rw (e.0.1, e.1, e.0.0)
-            (then_trail p (bytes ++ coded_by (with_part c p) p) out (node_at s x within)
-            (part_below s.nodes x refl refl h.nodes)
-            (λ end code. rw (test_node n x within, test_before n (length s.records) x within)
-            (ap (λ l. bytes ++ l) code, sym (append-nil out))))
-        go (inr l) =
-            let p = part_at s.records (x - n) in
-            let e = subst (λ b. IsVisited (part_at s.records (x - b)) c out d then × (put ≡ bytes))
-            t.walk.nodes_below (rest l) in
-            let behind : n ≤ x = omega (arith, t.walk.nodes_below) in
-            let below : x < n + length s.records =
-            all_has (λ x. x < n + length s.records) c.queue (recursion_from_All _ c.queue t.walk.graph) x
-            (has_at c.queue k x at) in
-            let y : n + (x - n) ≡ x = omega arith in
-            rw (e.0.1, e.1, e.0.0)
-            (then_trail p bytes (out ++ coded_by (with_part c p) p)
-            (subst (λ x. content_at (parts_graph s ++ parts_held s) x ≡ part_cell n p) y
-            (record_at s (x - n) (omega arith)))
-            (part_below s.records (x - n) refl refl h.records)
-            (λ end code. rw (test_other n x behind, test_record n (length s.records) x behind below)
-            (sym (append-nil bytes), ap (λ l. out ++ l) code)))
+    trail_next d put then node rest =
+        let n = length s.nodes in
+        elim (cases_lt x c.nodes_below) [
+          | inl l ↦
+              let p = part_at s.nodes x in
+              let within : x < n = omega (arith, t.walk.nodes_below) in
+              let e = node l in
+              rw (e.0.1, e.1, e.0.0)
+              (then_trail p (bytes ++ coded_by (with_part c p) p) out (node_at s x within)
+              (part_within s.nodes x (omega arith) (omega arith) h.nodes)
+              (λ end code. rw (test_node n x within, test_before n (length s.records) x within)
+              (ap (λ l. bytes ++ l) code, sym (append-nil out))))
+          | inr l ↦
+              let p = part_at s.records (x - n) in
+              let e = subst (λ b. IsVisited (part_at s.records (x - b)) c out d then × (put ≡ bytes))
+              t.walk.nodes_below (rest l) in
+              let behind : n ≤ x = omega (arith, t.walk.nodes_below) in
+              let below : x < n + length s.records =
+              all_has (λ x. x < n + length s.records) c.queue (recursion_from_All _ c.queue t.walk.graph) x
+              (has_at c.queue k x at) in
+              let y : n + (x - n) ≡ x = omega arith in
+              rw (e.0.1, e.1, e.0.0)
+              (then_trail p bytes (out ++ coded_by (with_part c p) p) (rw y at (record_at s (x - n) (omega arith)))
+              (part_within s.records (x - n) (omega arith) (omega arith) h.records)
+              (λ end code. rw (test_other n x behind, test_record n (length s.records) x behind below)
+              (sym (append-nil bytes), ap (λ l. out ++ l) code)))
+        ]
 
   module _ (rooted : IsRooted (parts_graph s ++ parts_held s) roots) where
     -- after a visit for each cell the queue is visited
@@ -190,22 +184,7 @@ module _ {s : Parts} {roots before : List ℕ} {k : ℕ} {front apart : List ℕ
     -- where the queue is visited, all is met, and each name in it has its number
     pub trail_ended : length c.queue ≤ k → IsWalk s roots before (length (parts_graph s ++ parts_held s)) c
         × AreWritten s front apart c.queue bytes out c
-    trail_ended l =
-        let w = t.walk in
-        let v = length before + k in
-        let none = slice_get_past (met_in (parts_graph s ++ parts_held s) roots v) v
-        (omega (arith, ap length w.met, length-append before c.queue)) in (
-          record {
-            met = w.met ∙ met_in_ended (parts_graph s ++ parts_held s) roots rooted v none;
-            nodes = w.nodes;
-            records = w.records;
-            nodes_below = w.nodes_below;
-            records_below = w.records_below;
-            graph = w.graph;
-          },
-          subst (λ q. AreWritten s front apart q bytes out c) (take_all k c.queue l)
-              (t.written c (extends_itself c.nodes) (extends_itself c.records)),
-        )
+    trail_ended l = grind (arith, slice_get_past, length-append, met_in_ended, take_all, extends_itself)
 
 -- ---- the graph
 
@@ -213,9 +192,7 @@ module _ {s : Parts} {roots before : List ℕ} {k : ℕ} {front apart : List ℕ
 counted : (keep : List ℕ → List ℕ) (f : ℕ → Part) → ((xs ys : List ℕ) → keep (xs ++ ys) ≡ keep xs ++ keep ys)
     → (before queue all : List ℕ) (count n : ℕ) → all ≡ keep (before ++ queue) → count ≡ length all
     → n ≡ length (keep before) → length (map f (keep queue)) ≡ count - n
-counted keep f append before queue all count n e count_is n_is =
-    let many = ap length (e ∙ append before queue) ∙ length-append (keep before) (keep queue) in
-    omega (arith, length-map (keep queue) f, many)
+counted keep f append before queue all count n e count_is n_is = grind (arith, length-append, length-map)
 
 -- the counts are set once all is visited, and the records come behind the nodes
 pub graph_written : {s : Parts} {roots before : List ℕ} {v : ℕ} {c : Coding} → IsWalk s roots before v c

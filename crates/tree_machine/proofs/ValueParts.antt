@@ -1,6 +1,5 @@
 -- Values that are each made into a part: what the parts say of the values, and the values of the parts.
-use Rattle.std.proofs.Common.{arith, subst}
-use Rattle.std.specs.Prelude.{◌≡◌, ℕ, ◌<◌, List, [], ◌∷◌, map, length, slice_get, Option, Some, None, All, refl}
+use Rattle.std.proofs.Common.{arith, ◌≡◌, ℕ, ◌<◌, List, [], ◌∷◌, map, length, slice_get, Option, Some, None, All, refl}
 use Rattle.std.specs.List.{AllZip}
 use Rattle.std.proofs.lemmas.List.{get_or-map, length-map}
 use Rattle.std.proofs.lemmas.List.Elements.{All-map, All-weaker}
@@ -43,15 +42,13 @@ names_paired [] = tt
 names_paired (None ∷ xs) = (tt, names_paired xs)
 names_paired (Some x ∷ xs) = (refl, names_paired xs)
 
-parts_paired : (a b : Part) → a ≡ b → ArePartsPaired Same Same a b
-parts_paired a b e = subst (ArePartsPaired Same Same a) e
-    (record { facts = refl; nodes = names_paired a.nodes; records = names_paired a.records })
-
 module _ {A : Type 0} (part : A → Part) where
   -- values are equal where equality pairs their parts; so equal parts are of equal values
   pub values_equal : ((a b : A) → ArePartsPaired Same Same (part a) (part b) → a ≡ b) → (xs ys : List A)
       → map part xs ≡ map part ys → xs ≡ ys
-  values_equal equal = map_tells part (λ a b e. equal a b (parts_paired (part a) (part b) e))
+  values_equal equal =
+      map_tells part (λ a b e. equal a b (rw (← e)
+      (record { facts = refl; nodes = names_paired (part a).nodes; records = names_paired (part a).records })))
 
   module _ (T : A → Type 0) (n m i j : ℕ) (e : i ≡ n) (d : j ≡ m) where
     -- each part has its numbers below these

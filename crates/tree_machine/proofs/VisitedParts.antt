@@ -1,18 +1,19 @@
 -- Parts that are visited one behind the other: their names are in range, and what is left makes the coding that all of
 -- them make. Where each node and each record has its own number, parts are written as they are.
-use Rattle.std.proofs.Common.{◌≡◌, ℕ, ◌+◌, ◌<◌, ◌≤◌, List, ◌++◌, map, length, get_or, subst, ◌∙◌, arith, length-append}
+use Rattle.std.proofs.Common.{◌≡◌, ℕ, ◌+◌, ◌<◌, ◌≤◌, List, ◌++◌, map, length, get_or, ◌∙◌, arith}
 use Rattle.std.proofs.Common.{[], ◌∷◌, drop, refl, sym, ap, append_assoc, append-nil, zero-add}
 use Rattle.std.specs.Prelude.{Option, Some, None, IfSome, slice_get, nat_eq}
 use Rattle.std.specs.List.{All, IsDistinct}
-use Rattle.std.proofs.lemmas.List.{get_or_append_left, get_or-append-add, get_or-map, length-map, drop_all, drop_more}
-use Rattle.std.proofs.lemmas.List.Elements.{All-nil, All-head, All-tail, recursion_from_All}
+use Rattle.std.proofs.lemmas.List.{drop_all, drop_more}
+use Rattle.std.proofs.lemmas.List.Elements.{All-drop, All-nil, All-head, All-tail, All-take, All-weaker}
+use Rattle.std.proofs.lemmas.List.Elements.{recursion_from_All}
 use Rattle.std.proofs.lemmas.Option.{IfSome_then, unwrap_or-slice_get}
 use Rattle.std.specs.Option.{option_and_then}
-use Rattle.std.proofs.Math.Seq.{drop-length}
+use Rattle.std.proofs.Math.Seq.{drop-append_seam, drop-length, take-append_seam}
 use Rattle.tree_machine.specs.Parts.{Part, IsPartBelow, no_part, part_at, Parts}
 use Rattle.tree_machine.specs.Coding.{Coding, IsVisited, coded_parts, with_part, with_parts, IsOwn, coded_by}
 use Rattle.tree_machine.specs.Cells.{met_all, place_in}
-use Rattle.tree_machine.specs.Flat.{all_front, cell_code, number_code, part_codes, part_content, parts_code}
+use Rattle.tree_machine.specs.Flat.{all_front, cell_code, part_codes, part_content, parts_code}
 use Rattle.tree_machine.specs.Graphs.{numbers_from}
 use Rattle.tree_machine.specs.Laws.CellLists.{distinct_in_row}
 use Rattle.tree_machine.specs.Laws.CellOrder.{RefsBelow}
@@ -21,24 +22,21 @@ use Rattle.tree_machine.specs.Laws.Fronts.{own_parts_code}
 use Rattle.tree_machine.specs.Laws.MetLists.{number_at}
 use Rattle.tree_machine.specs.Laws.SmallCodes.{small_code}
 use Rattle.tree_machine.proofs.Lists.{at_all}
+use Rattle.tree_machine.proofs.ValueParts.{from_map}
 use Rattle.tree_machine.proofs.Codings.{codes_append, met_old}
 
 module _ (P Q : ℕ → Type 0) (refs : List (Option ℕ)) (stack : List ℕ) (f : (x : ℕ) → P x → Q x)
     (h : All (λ r. IfSome r P) (refs ++ map Some stack)) where
   -- what holds of the names before a stack and of those in it holds of the stack
   pub stack_all : All Q stack
-  stack_all i d l =
-      f (get_or stack i d)
-      (subst (λ r. IfSome r P) (get_or-append-add refs (map Some stack) i None ∙ get_or-map Some stack i d None l)
-      (h (length refs + i) None
-      (omega (arith, length-append refs (map Some stack), length-map stack (λ x. Some x)))))
+  stack_all =
+      from_map Some Q (λ r. IfSome r P) f stack (rw drop-append_seam at (All-drop (λ r. IfSome r P) (length refs) _ h))
 
   -- and of those before it
   pub names_all : All (λ r. IfSome r Q) refs
-  names_all i d l =
-      IfSome_then (get_or refs i d)
-      (subst (λ r. IfSome r P) (get_or_append_left refs (map Some stack) d i l)
-      (h i d (omega (arith, length-append refs (map Some stack))))) f
+  names_all =
+      All-weaker (λ r. IfSome r P) _ (λ r k. IfSome_then r k f) refs
+      (rw take-append_seam at (All-take (λ r. IfSome r P) (length refs) _ h))
 
 -- each part names nodes and records that there are, also where there may be more
 pub part_within : {n m i j : ℕ} (parts : List Part) (x : ℕ) → n ≤ i → m ≤ j → All (IsPartBelow n m) parts
@@ -50,11 +48,6 @@ part_within {n} {m} parts x l k h =
       nodes = λ q d w. IfSome_then (get_or p.nodes q d) (b.nodes q d w) (λ y g. omega arith);
       records = λ q d w. IfSome_then (get_or p.records q d) (b.records q d w) (λ y g. omega arith);
     }
-
--- or just as many
-pub part_below : {n m i j : ℕ} (parts : List Part) (x : ℕ) → i ≡ n → j ≡ m → All (IsPartBelow n m) parts
-    → IsPartBelow i j (part_at parts x)
-part_below parts x e f h = part_within parts x (omega arith) (omega arith) h
 
 -- ---- one part behind the other
 
@@ -97,11 +90,7 @@ module _ {start now : Coding} {bytes put : List ℕ} {parts : List Part} {k : �
 
   -- none are left
   pub left_none : length parts ≤ k → (now ≡ with_parts start parts) × (put ≡ bytes ++ coded_parts start parts)
-  left_none l =
-      let none = drop_all k parts l in (
-        sym (ap (with_parts now) none) ∙ left.coding,
-        sym (append-nil put) ∙ sym (ap (λ ps. put ++ coded_parts now ps) none) ∙ left.written,
-      )
+  left_none l = grind (arith, drop_all, append-nil)
 
 -- ---- own numbers
 
@@ -153,9 +142,4 @@ pub own_written : (s : Parts) (old : List ℕ) {n r : ℕ} {counted nodes record
     → r ≡ length s.records → n < 255 → r < 255 → counted ≡ old ++ n ∷ r ∷ [] → nodes ≡ counted ++ part_codes s.nodes
     → records ≡ nodes ++ part_codes s.records → held ≡ records ++ part_codes s.held
     → held ≡ old ++ parts_code (all_front s) s
-own_written s old {n} {r} en er l g c h k e =
-    let first = ap number_code (sym en) ∙ small_code n l in
-    let second = ap number_code (sym er) ∙ small_code r g in
-    let code = own_parts_code s
-    ∙ (λ i. (first i ++ (second i ++ codes_append s.nodes s.records i)) ++ part_codes s.held) in
-    rw (e, k, h, c) ((simp append_assoc) ∙ ap (λ l. old ++ l) (sym code))
+own_written s old {n} {r} en er l g c h k e = grind (arith, small_code, own_parts_code, codes_append, append_assoc)

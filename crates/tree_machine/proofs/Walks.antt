@@ -71,3 +71,6 @@ pub order_in_range : (cells : List Content) (roots order : List ℕ) → IsRoote
     → All (λ x. x < length cells) order
 order_in_range cells roots order h e =
     rw e (λ k d l. (met_in_order cells roots h (length cells)).below _ (has_at _ k _ (slice_get-get_or _ k d l)))
+
+-- the steps of a walk
+pub ruleset walked = (visit_in_range, met_in_next)

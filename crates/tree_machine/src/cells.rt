@@ -56,6 +56,7 @@ impl Order {
 
     /// Meets a cell, and returns its place.
     #[inline(always)]
+    #[tactic(auto, using(crate::proofs::Numbers::placed))]
     fn assign(&mut self, cell: usize) -> Result<usize, OutOfMemory>
         requires { cell < length self.old.numbers.items }
         ensures order { OnOk result (self.new.order.items ≡ met self.old.order.items cell) }
@@ -140,6 +141,7 @@ impl Order {
 }
 
 /// Meets the roots, and then what each cell met refers to, in the order met.
+#[tactic(auto, using(crate::proofs::Walks::walked))]
 fn walk(alloc: Global, cells: &[Cell], roots: &[usize]) -> Result<Order, OutOfMemory>
     requires { IsRooted cells.now roots.now }
     ensures order { IfOk result (λ n. n.order.items ≡ order_of cells.now roots.now) }

@@ -110,6 +110,7 @@ fn put_stack(
 
 /// Appends the numbers below `count`.
 #[inline(always)]
+#[tactic(auto, using(crate::proofs::Codings::numbered_in_row))]
 fn put_first(queue: &mut Vec<u8>, count: usize) -> Result<(), OutOfMemory>
     requires { count < CELLS_BELOW }
     ensures { OnOk result (queue.new.items ≡ queue.old.items ++ numbers_from 0 count) }

@@ -76,6 +76,7 @@ impl<M: Encode> State<M> {
     /// The label of a state of a program: by own numbers its whole code, and else that of its form, in the layout of
     /// the code of a whole state of no steps. It is written in a buffer that is reused for each state, and copied into
     /// `spare`. If `spare` is too short, it allocates no more than the length of the label.
+    #[tactic(auto, using(crate::proofs::Labels::label_pieces))]
     pub fn label(
         &self,
         alloc: Global,
@@ -98,6 +99,7 @@ impl<M: Encode> State<M> {
 
     /// Whether a thread, by its step from another state to this one, got no reply and no note, and did not go astray.
     #[inline(always)]
+    #[tactic(auto, using(crate::proofs::OpLog::same_op_log))]
     fn did_no_more(&self, source: &Snapshot<State<M>>, was: &Thread<M::Loc>, thread: u8) -> bool
         requires step { (machine : M) × (program : Program)
             × (step (M.rules machine) program source.now.value thread ≡ Some self.now) }
@@ -115,6 +117,7 @@ impl<M: Encode> State<M> {
     /// Appends what the threads did. If the step left the memory as it was, it also appends what comes in front in the
     /// memory's code.
     #[inline(always)]
+    #[tactic(auto, using(crate::proofs::Labels::offsets_in_order))]
     fn put_front(
         &self,
         origin: &StepOrigin<'_, M>,
@@ -141,6 +144,7 @@ impl<M: Encode> State<M> {
 
     /// Appends what comes behind that: the rest of the memory's code, or all of it if the step wrote.
     #[inline(always)]
+    #[tactic(auto, using(crate::proofs::Forms::held_in_range))]
     fn put_rest(
         &self,
         alloc: Global,

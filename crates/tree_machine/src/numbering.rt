@@ -30,6 +30,7 @@ pub(crate) struct Numbering {
 
 impl Numbering {
     /// The numbering of no cells. It allocates nothing.
+    #[tactic(auto, using(crate::proofs::Numbers::nothing_met, crate::proofs::Numbers::nothing_twice))]
     pub(crate) fn none(alloc: Global) -> Numbering
         ensures order { result.order.items ≡ [] }
         ensures cells { result.numbers.items ≡ [] }
@@ -42,6 +43,7 @@ impl Numbering {
 
     /// Forgets all cells.
     #[inline(always)]
+    #[tactic(auto, using(crate::proofs::Numbers::nothing_met, crate::proofs::Numbers::nothing_twice))]
     pub(crate) fn clear(&mut self)
         ensures order { self.new.order.items ≡ [] }
         ensures cells { self.new.numbers.items ≡ [] }
@@ -53,6 +55,7 @@ impl Numbering {
     /// Begins anew with `cells` cells, none of which has a number. More cells than bytes can name are refused with
     /// `OutOfMemory`.
     #[inline(always)]
+    #[tactic(auto, using(crate::proofs::Numbers::made_or_left, crate::proofs::Numbers::nothing_twice))]
     pub(crate) fn restart(&mut self, cells: usize) -> Result<(), OutOfMemory>
         ensures nothing { OnOk result (self.new.order.items ≡ []) }
         ensures cells { OnOk result (length self.new.numbers.items ≡ cells) }
@@ -68,6 +71,7 @@ impl Numbering {
 
     /// Whether a cell has a number.
     #[inline(always)]
+    #[tactic(auto, using(crate::proofs::Numbers::has_number, crate::proofs::Numbers::no_number))]
     pub(crate) fn has(&self, cell: usize) -> bool
         requires { cell < length self.now.numbers.items }
         ensures has { result ≡ list_any (nat_eq cell) self.now.order.items }
@@ -78,6 +82,7 @@ impl Numbering {
 
     /// Gives a cell that has no number the next one.
     #[inline(always)]
+    #[tactic(auto, using(crate::proofs::Numbers::assigned))]
     pub(crate) fn assign(&mut self, cell: usize)
         requires known { cell < length self.old.numbers.items }
         requires absent { slice_get self.old.numbers.items cell ≡ Some 0 }
@@ -103,6 +108,7 @@ impl Numbering {
 
     /// Meets `count` cells from `first` on, all behind those met before.
     #[inline(always)]
+    #[tactic(auto, using(crate::proofs::Numbers::run_next))]
     pub(crate) fn assign_range(&mut self, first: usize, count: usize)
         requires in_range { first + count ≤ length self.old.numbers.items }
         requires behind { All (λ x. x < first) self.old.order.items }
@@ -116,6 +122,7 @@ impl Numbering {
 
     /// How many cells the order has.
     #[inline(always)]
+    #[tactic(auto, using(crate::proofs::Numbers::order_bounded))]
     pub(crate) fn len(&self) -> usize
         ensures count { result ≡ length self.now.order.items }
         ensures small { result < 255 }
@@ -134,6 +141,7 @@ impl Numbering {
 
     /// The number of a cell.
     #[inline(always)]
+    #[tactic(auto, using(crate::proofs::Numbers::number_bounded))]
     pub(crate) fn number(&self, cell: usize) -> u8
         requires { cell < length self.now.numbers.items }
         ensures number { reference_number (place_in self.now.order.items cell) ≡ result }

@@ -77,6 +77,7 @@ pub(crate) fn read_all_replies<'a, L>(
 
 /// Reads the notes of each of these threads, and returns the bytes behind them.
 #[inline(always)]
+#[tactic(auto, using(crate::proofs::Lists::field_stays))]
 pub(crate) fn read_all_notes<'a, L>(bytes: &'a [u8], threads: &mut [Thread<L>]) -> Option<&'a [u8]>
     ensures read { IfSome result
         (λ rest. bytes.now ≡ flat_map (list_code note_code) (notes_of threads.new) ++ rest.now) }

@@ -31,6 +31,7 @@ fn least(some: usize, more: usize) -> usize
 }
 
 /// Visits all nodes, in the order of their numbers.
+#[tactic(auto, using(crate::proofs::VisitedParts::left_none))]
 fn visit_nodes<P: Parts>(parts: &P, coder: &mut Coder, out: &mut Output) -> Visit
     requires in_range { (fixed : ℕ) × ArePartsInRange fixed (P.parts parts.now) }
     requires nodes { length (P.parts parts.now).nodes ≤ coder.old.nodes_below }
@@ -45,6 +46,7 @@ fn visit_nodes<P: Parts>(parts: &P, coder: &mut Coder, out: &mut Output) -> Visi
 }
 
 /// Visits all records, in the order of their numbers.
+#[tactic(auto, using(crate::proofs::VisitedParts::left_none))]
 fn visit_records<P: Parts>(parts: &P, coder: &mut Coder, out: &mut Output) -> Visit
     requires in_range { (fixed : ℕ) × ArePartsInRange fixed (P.parts parts.now) }
     requires nodes { length (P.parts parts.now).nodes ≤ coder.old.nodes_below }
@@ -60,6 +62,7 @@ fn visit_records<P: Parts>(parts: &P, coder: &mut Coder, out: &mut Output) -> Vi
 
 /// Visits what each thread holds, in the order of the threads.
 #[inline(always)]
+#[tactic(auto, using(crate::proofs::VisitedParts::left_none))]
 fn visit_all_held<P: Parts>(parts: &P, coder: &mut Coder, out: &mut Output) -> Visit
     requires in_range { (fixed : ℕ) × ArePartsInRange fixed (P.parts parts.now) }
     requires nodes { length (P.parts parts.now).nodes ≤ coder.old.nodes_below }
@@ -298,6 +301,7 @@ fn write_canonical<P: Parts>(
 /// Appends what comes behind the front of that code. The front is that of the parts themselves, by their own numbers.
 /// Where all parts come in front, each is named by its own number.
 #[inline(always)]
+#[tactic(auto, using(crate::proofs::HeldWalks::taken))]
 fn write_canonical_behind<P: Parts>(
     fixed: usize,
     front: Front,

@@ -40,6 +40,7 @@ impl Replies {
     ghost use Rattle.tree_machine.specs.FormCode.{replies_code};
 
     /// No reply.
+    #[tactic(auto, unfolding(crate::specs::Packed::replies_in))]
     pub fn new() -> Replies
         ensures { result ≡ [] }
     {
@@ -47,6 +48,7 @@ impl Replies {
     }
 
     /// The number of replies.
+    #[tactic(auto, using(crate::specs::Laws::Packed::power_bounded, crate::specs::Laws::Packed::replies_length))]
     pub fn len(&self) -> usize
         ensures value { result ≡ length self.now }
         ensures fits { result ≤ 6 }
@@ -55,6 +57,7 @@ impl Replies {
     }
 
     /// The reply at an index, if there is one.
+    #[tactic(auto, using(crate::proofs::Packed::reply_got))]
     pub fn get(&self, index: usize) -> Option<bool>
         ensures { result ≡ slice_get self.now index }
     {
@@ -66,6 +69,7 @@ impl Replies {
     }
 
     /// Appends a reply, for which there is room.
+    #[tactic(auto, using(crate::specs::Laws::Packed::pushed))]
     pub fn push(&mut self, reply: bool)
         requires { length self.old < 6 }
         ensures { self.new ≡ self.old ++ reply ∷ [] }
@@ -75,6 +79,7 @@ impl Replies {
 
     /// The byte that holds the replies in a label.
     #[inline(always)]
+    #[tactic(auto, using(crate::proofs::Packed::code_of_replies))]
     pub(crate) fn byte(&self) -> u8
         ensures { replies_code self.now ≡ result ∷ [] }
     {
@@ -83,6 +88,7 @@ impl Replies {
 
     /// The replies that a byte of a label holds, if it holds any.
     #[inline(always)]
+    #[tactic(auto, using(crate::proofs::Packed::code_of_replies))]
     pub(crate) fn of_byte(byte: u8) -> Option<Replies>
         ensures { IfSome result (λ replies. replies_code replies ≡ byte ∷ []) }
     {
@@ -103,6 +109,7 @@ impl PartialEq for Replies {
 
     ghost laws = { lists_per (partial_equiv_from_equiv bool_eq_equiv) };
 
+    #[tactic(auto, using(crate::proofs::Packed::replies_same))]
     fn eq(&self, other: &Replies) -> bool {
         self.number == other.number
     }

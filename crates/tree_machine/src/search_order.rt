@@ -50,7 +50,7 @@ pub fn side_of(wanted: u8, key: u8) -> Side
 
 /// Whether the tree at a node is in order between two keys. Each internal node splits the keys between them in two. So
 /// the walk ends, and it meets no node twice if it returns `true`.
-#[tactic(auto, using(crate::specs::Laws::SearchOrder::none_is_ordered, crate::specs::Laws::SearchOrder::leaf_is_ordered))]
+#[tactic(auto, using(crate::proofs::Keys::in_order))]
 fn is_ordered<S: Shapes>(memory: &S, low: u8, high: u8, x: u16) -> bool
     ensures { IsTrue result ↔ IsOrdered (S.shapes memory.now) low high x }
 {

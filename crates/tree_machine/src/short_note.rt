@@ -39,6 +39,7 @@ impl ShortNote {
     ghost use Rattle.tree_machine.specs.FormCode.{note_code};
 
     /// No count.
+    #[tactic(auto, unfolding(crate::specs::Packed::counts_in))]
     pub fn new() -> ShortNote
         ensures { result ≡ [] }
     {
@@ -46,6 +47,7 @@ impl ShortNote {
     }
 
     /// Appends a count, for which there is room.
+    #[tactic(auto, using(crate::proofs::Packed::note_push))]
     pub fn push(&mut self, count: u8)
         requires room { length self.old < 4 }
         requires small { count < 8 }
@@ -57,6 +59,7 @@ impl ShortNote {
 
     /// How many operations a thread had finished: 0 for a thread that the program does not have.
     #[inline(always)]
+    #[tactic(auto, using(crate::proofs::Packed::digit_at, crate::proofs::Packed::none_at))]
     pub fn count_of(&self, thread: u8) -> u8
         ensures { result ≡ slice_index self.now thread }
     {
@@ -68,6 +71,7 @@ impl ShortNote {
     }
 
     /// The counts.
+    #[tactic(auto, using(crate::proofs::Packed::length_is))]
     pub fn counts(&self) -> Note
         ensures { result ≡ self.now }
     {
@@ -80,6 +84,7 @@ impl ShortNote {
 
     /// The two bytes that hold the note in a label.
     #[inline(always)]
+    #[tactic(auto, using(crate::proofs::Packed::code_of_number))]
     pub(crate) fn bytes(&self) -> (u8, u8)
         ensures { note_code self.now ≡ result.0 ∷ result.1 ∷ [] }
     {
@@ -88,6 +93,7 @@ impl ShortNote {
 
     /// The note that two bytes of a label hold, if they hold any.
     #[inline(always)]
+    #[tactic(auto, using(crate::proofs::Packed::note_read))]
     pub(crate) fn of_bytes(high: u8, low: u8) -> Option<ShortNote>
         ensures { IfSome result (λ note. note_code note ≡ high ∷ low ∷ []) }
     {
@@ -109,6 +115,7 @@ impl PartialEq for ShortNote {
 
     ghost laws = { lists_per (partial_equiv_from_equiv nat_eq_equiv) };
 
+    #[tactic(auto, using(crate::proofs::Packed::notes_same))]
     fn eq(&self, other: &ShortNote) -> bool {
         self.number == other.number
     }

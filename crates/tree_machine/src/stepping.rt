@@ -75,6 +75,7 @@ impl<M: Machine> State<M> {
     /// Makes the step of a thread that is ready for an operation, in place. `was` becomes the thread as it was before:
     /// its place is moved there, and not copied.
     #[inline(always)]
+    #[tactic(auto, using(crate::proofs::States::step_ready))]
     pub(crate) fn make_step(
         &mut self,
         alloc: Global,

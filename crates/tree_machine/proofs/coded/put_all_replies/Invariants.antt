@@ -1,14 +1,14 @@
 use Rattle.std.proofs.Common.{◌≡◌, ◌+◌, ◌++◌, ◌∷◌, length, take}
 use Rattle.std.specs.List.{flat_map}
+use Rattle.tree_machine.specs.Alike.{replies_of}
 use Rattle.tree_machine.specs.FormCode.{replies_code}
 use Rattle.tree_machine.proofs.coded.put_all_replies.Given as goal
 
 -- the replies of the threads so far are written, within the slice
 abbrev pub invariant-loop-thread : goal.invariant-loop-thread
-invariant-loop-thread g l =
-    record {
-      put : take l.at l.bytes ≡ take l.start l.fn.bytes ++ length l.threads
-          ∷ flat_map (λ thread. replies_code thread.replies) (take l.thread-index l.threads);
-      at : l.at ≡ l.start + 1 + l.thread-index;
-      length : length l.bytes ≡ length l.fn.bytes;
-    }
+invariant-loop-thread g l = record {
+  put : take l.at l.bytes ≡ take l.start l.fn.bytes ++ length l.threads
+      ∷ flat_map replies_code (replies_of (take l.thread-index l.threads));
+  at : l.at ≡ l.start + 1 + l.thread-index;
+  length : length l.bytes ≡ length l.fn.bytes;
+}

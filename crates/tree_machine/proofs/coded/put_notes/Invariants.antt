@@ -5,10 +5,9 @@ use Rattle.tree_machine.proofs.coded.put_notes.Given as goal
 
 -- the notes so far are written, within the slice
 abbrev pub invariant-loop-note : goal.invariant-loop-note
-invariant-loop-note l =
-    record {
-      put : take l.at l.bytes ≡ take l.start l.fn.bytes
-          ++ length l.notes ∷ flat_map note_code (take l.note-index l.notes);
-      at : l.at ≡ l.start + 1 + 2 * l.note-index;
-      length : length l.bytes ≡ length l.fn.bytes;
-    }
+invariant-loop-note l = record {
+  put : take l.at l.bytes ≡ take l.start l.fn.bytes
+      ++ length l.notes ∷ flat_map note_code (take l.note-index l.notes);
+  at : l.at ≡ l.start + 1 + 2 * l.note-index;
+  length : length l.bytes ≡ length l.fn.bytes;
+}

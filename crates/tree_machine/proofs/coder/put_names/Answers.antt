@@ -1,5 +1,4 @@
-use Rattle.std.proofs.Common.{◌∙◌, ap, arith, get_or, take}
-use Rattle.std.specs.Prelude.{None}
+use Rattle.std.proofs.Common.{◌∙◌, ap, arith, get_or, take, None}
 use Rattle.std.proofs.lemmas.List.{take_more}
 use Rattle.tree_machine.proofs.Codings.{named_next}
 use Rattle.tree_machine.proofs.coder.put_names.Goals as goal

@@ -1,5 +1,4 @@
-use Rattle.std.proofs.Common.{◌∙◌, ap, arith, get_or, take}
-use Rattle.std.specs.Prelude.{Some}
+use Rattle.std.proofs.Common.{◌∙◌, ap, arith, get_or, take, Some}
 use Rattle.std.proofs.lemmas.List.{map_more}
 use Rattle.tree_machine.proofs.Codings.{named_next}
 use Rattle.tree_machine.proofs.coder.put_stack.Goals as goal

@@ -1,5 +1,5 @@
 use Rattle.std.proofs.Common.{arith}
-use Rattle.tree_machine.proofs.VisitedParts.{left_next, left_none, next_named}
+use Rattle.tree_machine.proofs.VisitedParts.{left_next, next_named}
 use Rattle.tree_machine.proofs.part_code.visit_nodes.Goals as goal
 
 pub visit_node-requires-clause-named : goal.visit_node-requires-clause-named
@@ -10,9 +10,3 @@ pub loop-index-preserved : goal.loop-index-preserved
 loop-index-preserved g c =
     left_next c.loop-index.invariant (omega (arith, c.node_count-index-end.ensures, c.loop-index-test.true))
     c.in_ok-visit_node.ensures
-
-pub returns : goal.returns
-returns g c =
-    let all = left_none c.loop-index.invariant
-    (omega (arith, c.node_count-index-end.ensures, c.loop-index-test.false)) in
-    record { coder = all.0; written = all.1 }

@@ -1,5 +1,4 @@
-use Rattle.std.proofs.Common.{◌≤◌, ◌++◌, length, sym, arith}
-use Rattle.std.specs.Prelude.{slice_get}
+use Rattle.std.proofs.Common.{◌≤◌, ◌++◌, length, sym, arith, slice_get}
 use Rattle.tree_machine.specs.Parts.{parts_graph, parts_held}
 use Rattle.tree_machine.specs.Laws.PartCells.{length-cells}
 use Rattle.tree_machine.proofs.Trails.{trail_begun, trail_next, trail_long, trail_ended}

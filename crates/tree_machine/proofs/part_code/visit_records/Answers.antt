@@ -1,5 +1,5 @@
 use Rattle.std.proofs.Common.{arith}
-use Rattle.tree_machine.proofs.VisitedParts.{left_next, left_none, next_named}
+use Rattle.tree_machine.proofs.VisitedParts.{left_next, next_named}
 use Rattle.tree_machine.proofs.part_code.visit_records.Goals as goal
 
 pub visit_record-requires : goal.visit_record-requires
@@ -10,9 +10,3 @@ pub loop-index-preserved : goal.loop-index-preserved
 loop-index-preserved g c =
     left_next c.loop-index.invariant (omega (arith, c.record_count-index-end.ensures, c.loop-index-test.true))
     c.in_ok-visit_record.ensures
-
-pub returns : goal.returns
-returns g c =
-    let all = left_none c.loop-index.invariant
-    (omega (arith, c.record_count-index-end.ensures, c.loop-index-test.false)) in
-    record { coder = all.0; written = all.1 }

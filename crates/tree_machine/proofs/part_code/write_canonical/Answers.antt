@@ -1,4 +1,4 @@
-use Rattle.std.proofs.Common.{append_assoc, refl, sym}
+use Rattle.std.proofs.Common.{arith, append_assoc, refl}
 use Rattle.tree_machine.specs.Laws.Canonical.{fixed_cells}
 use Rattle.tree_machine.proofs.Trails.{front_begun, front_written, nodes_are, records_are}
 use Rattle.tree_machine.proofs.part_code.write_canonical.Goals as goal
@@ -11,15 +11,7 @@ visit_graph-requires g c κs within =
     (within, ((fixed, c.requires), (fixed_cells fixed s c.requires, (front_begun fixed s c.requires, (refl, refl)))))
 
 pub visit_behind-requires : goal.visit_behind-requires
-visit_behind-requires g c =
-    let walked = rw (c.in_ok-enqueue_first.ensures, c.in_ok-restart.ensures) at c.in_ok-visit_graph.ensures.walked in
-    record {
-      in_range = c.requires;
-      nodes_below = sym walked.nodes_below;
-      records_below = sym walked.records_below;
-      nodes = nodes_are c.args.fixed _ c.requires walked;
-      records = records_are c.args.fixed _ c.requires walked;
-    }
+visit_behind-requires g c = grind (arith, nodes_are, records_are)
 
 pub returns : goal.returns
 returns g c =

@@ -1,16 +1,10 @@
-use Rattle.std.proofs.Common.{◌≡◌, ℕ, ◌≤◌, ◌++◌, ◌⊎◌, ◌∙◌, List, ap, arith, length, take}
-use Rattle.std.proofs.lemmas.List.{length-take}
+use Rattle.std.proofs.Common.{◌++◌, ◌∙◌, ap}
 use Rattle.std.proofs.lemmas.Result.{on_ok_weaker}
 use Rattle.tree_machine.specs.Canonical.{canonical_front, canonical_parts, cut_front}
 use Rattle.tree_machine.specs.Flat.{behind_code}
-use Rattle.tree_machine.specs.Parts.{Part}
 use Rattle.tree_machine.specs.Laws.Fronts.{behind_all, front_is}
+use Rattle.tree_machine.proofs.HeldWalks.{taken}
 use Rattle.tree_machine.proofs.part_code.write_canonical_behind.Goals as goal
-
--- the lesser of a front and of all parts is how many parts the front takes
-taken : {f r a b : ℕ} (ps : List Part) → (r ≤ a) × (r ≤ b) → (r ≡ a) ⊎ (r ≡ b) → a ≡ f → b ≡ length ps
-    → r ≡ length (take f ps)
-taken {f} ps least one front all = grind (arith, length-take f ps)
 
 pub returns-then-front_records-records : goal.returns-then-front_records-records
 returns-then-front_records-records g c =
@@ -20,18 +14,6 @@ returns-then-front_records-records g c =
     let nodes = taken s.nodes most.at_most most.one c.from.ensures c.node_count-nodes.ensures in
     let records = taken s.records more.at_most more.one c.from-2.ensures c.record_count-records.ensures in
     rw (← behind_all c.args.fixed c.args.front s c.requires.in_range c.requires.met (cc) (cc)) c.write_own_held.ensures
-
-pub visit_behind-requires-clause-nodes : goal.visit_behind-requires-clause-nodes
-visit_behind-requires-clause-nodes g c =
-    let most = c.least-front_nodes.ensures in
-    let same = taken _ most.at_most most.one c.from.ensures c.node_count-nodes.ensures in
-    rw (c.in_ok-restart.ensures, c.requires.met.nodes, same)
-
-pub visit_behind-requires-clause-records : goal.visit_behind-requires-clause-records
-visit_behind-requires-clause-records g c =
-    let most = c.least-front_records.ensures in
-    let same = taken _ most.at_most most.one c.from-2.ensures c.record_count-records.ensures in
-    rw (c.in_ok-restart.ensures, c.requires.met.records, same)
 
 pub returns : goal.returns
 returns g c =

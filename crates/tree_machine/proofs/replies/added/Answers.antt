@@ -1,6 +1,5 @@
 -- A small power is not cut.
-use Rattle.std.proofs.Common.{◌≡◌, ◌≤◌, ◌*◌, ◌^◌, ◌%◌, refl, arith}
-use Rattle.std.proofs.Math.Pow.{pow_mono}
+use Rattle.std.proofs.Common.{◌≡◌, ◌≤◌, ◌*◌, ◌^◌, ◌%◌, refl, arith, pow_mono}
 use Rattle.tree_machine.proofs.replies.added.Goals as goal
 
 pub returns-then-reply : goal.returns-then-reply

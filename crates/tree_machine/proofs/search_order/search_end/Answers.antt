@@ -1,5 +1,4 @@
-use Rattle.std.proofs.Common.{rules, ◌≡◌, suc, ◌-◌, sym, ◌∙◌, arith}
-use Rattle.std.specs.Prelude.{Some}
+use Rattle.std.proofs.Common.{rules, ◌≡◌, suc, ◌-◌, sym, ◌∙◌, arith, Some}
 use Rattle.tree_machine.specs.Laws.SearchOrder.{end_at_none, end_at_leaf, end_below}
 use Rattle.tree_machine.specs.declared.search_order.Shape.TheVariants.{Leaf, Internal}
 use Rattle.tree_machine.proofs.search_order.search_end.Goals as goal

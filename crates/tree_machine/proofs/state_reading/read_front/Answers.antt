@@ -1,7 +1,6 @@
 -- The bytes begin with those that are known.
-use Rattle.std.proofs.Common.{◌≡◌, ℕ, true, List, ◌++◌, length, take, drop, nat_eq, sym, ◌∙◌}
+use Rattle.std.proofs.Common.{◌≡◌, ℕ, true, List, ◌++◌, length, take, drop, nat_eq, sym, ◌∙◌, take-append-drop}
 use Rattle.std.specs.Cmp.Lexicographic.{pointwise}
-use Rattle.std.proofs.lemmas.List.{take-append-drop}
 use Rattle.sched_program.specs.Laws.Exact.{nat_exact, list_exact}
 use Rattle.tree_machine.proofs.state_reading.read_front.Goals as goal
 

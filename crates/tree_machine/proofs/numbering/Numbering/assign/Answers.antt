@@ -1,34 +1,6 @@
-use Rattle.std.proofs.Common.{◌+◌, ◌∙◌, arith, length-set}
-use Rattle.tree_machine.proofs.Numbers.{unmet, order_room, next_numbers, next_order, next_known, met_new}
+use Rattle.std.proofs.Common.{rules}
+use Rattle.tree_machine.proofs.Numbers.{next_numbers, next_order, next_known}
 use Rattle.tree_machine.proofs.numbering.Numbering.assign.Goals as goal
 
-pub push_reserved-requires : goal.push_reserved-requires
-push_reserved-requires c =
-    let n = c.args.self.now in omega (arith, order_room n c.requires.known c.requires.absent, n.room, n.order.ok.0)
-
-pub overflow_cast-place : goal.overflow_cast-place
-overflow_cast-place c =
-    let n = c.args.self.now in omega (arith, order_room n c.requires.known c.requires.absent, n.bounded, n.order.ok.0)
-
-pub overflow_add-place : goal.overflow_add-place
-overflow_add-place c =
-    let n = c.args.self.now in omega (arith, order_room n c.requires.known c.requires.absent, n.bounded, n.order.ok.0)
-
 pub invariant_of-self : goal.invariant_of-self
-invariant_of-self c =
-    let n = c.args.self.now in
-    let known = c.requires.known in
-    let absent = c.requires.absent in
-    let pushed = c.push_reserved.ensures.items in
-    let same = length-set n.numbers.items c.args.cell (c.len-place.result + 1) in
-    record {
-      has_numbers = next_numbers n known absent pushed (c.len-place.ensures ∙ n.order.ok.0);
-      distinct = (next_order n known absent pushed).distinct;
-      known = next_known n known absent pushed same;
-      bounded = omega (arith, same, n.bounded);
-      room = omega (arith, same, n.room, c.push_reserved.ensures.capacity);
-    }
-
-pub returns-clause-order : goal.returns-clause-order
-returns-clause-order c =
-    c.push_reserved.ensures.items ∙ met_new _ _ (unmet c.args.self.now c.requires.known c.requires.absent)
+invariant_of-self c = search (rules, next_numbers, next_order, next_known)

@@ -4,8 +4,7 @@ use Rattle.tree_machine.proofs.numbering.Numbering.assign_range.Given as goal
 
 -- i cells are met
 abbrev pub invariant-loop-i : goal.invariant-loop-i
-invariant-loop-i l =
-    record {
-      order : l.self.order.items ≡ l.fn.self.order.items ++ numbers_from l.first l.i;
-      cells : length l.self.numbers.items ≡ length l.fn.self.numbers.items;
-    }
+invariant-loop-i l = record {
+  order : l.self.order.items ≡ l.fn.self.order.items ++ numbers_from l.first l.i;
+  cells : length l.self.numbers.items ≡ length l.fn.self.numbers.items;
+}

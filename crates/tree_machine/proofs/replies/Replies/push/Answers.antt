@@ -14,8 +14,3 @@ invariant_of-self c =
     let more = pushed _ _ _ _ _ c.self.view_is c.self.invariant.0 c.self.invariant.1 c.requires c.len.ensures.value
     c.added.ensures in
     (omega (arith, c.self.invariant.0), more.0)
-
-pub returns : goal.returns
-returns c =
-    (pushed _ _ _ _ _ c.self.view_is c.self.invariant.0 c.self.invariant.1 c.requires c.len.ensures.value
-    c.added.ensures).1

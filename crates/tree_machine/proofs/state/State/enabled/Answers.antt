@@ -1,5 +1,4 @@
-use Rattle.std.proofs.Common.{rules, ◌↔◌}
-use Rattle.std.specs.Prelude.{IsTrue}
+use Rattle.std.proofs.Common.{rules, ◌↔◌, IsTrue}
 use Rattle.tree_machine.specs.Step.{IsEnabled}
 use Rattle.tree_machine.proofs.Alike.{enabled_alike}
 use Rattle.tree_machine.proofs.state.State.enabled.Goals as goal

@@ -1,7 +1,5 @@
 use Rattle.tree_machine.proofs.Forms.{forms_tell}
-use Rattle.std.proofs.Common.{ap, ◌++◌, ◌∙◌}
-use Rattle.tree_machine.specs.Alike.{state_form}
-use Rattle.tree_machine.specs.FormCode.{content_code}
+use Rattle.std.proofs.Common.{arith}
 use Rattle.tree_machine.proofs.state.State.form.Goals as goal
 
 pub returns-clause-exact : goal.returns-clause-exact
@@ -11,8 +9,4 @@ returns-clause-exact g c other numbers =
     (g.M.Machine.form_of c.args.machine) (bound.forms c.args.machine) c.args.self.now other c.requires.numbers numbers)
 
 pub invariant_of-result : goal.invariant_of-result
-invariant_of-result g c =
-    let code = content_code g.M.Encode.form_code
-    (state_form (g.M.Machine.form_of c.args.machine) c.args.self.now) in
-    rw (c.of.ensures, c.of-2.ensures)
-    (c.into_bytes.ensures ∙ c.in_ok-put_form.ensures ∙ ap (λ l. l ++ code) c.new-buffer.ensures)
+invariant_of-result g c = grind arith

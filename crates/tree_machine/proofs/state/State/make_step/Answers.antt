@@ -1,9 +1,7 @@
 -- The thread is moved on in place, by what came of the access. It stands where it stood, and its place is taken out.
 use Rattle.std.proofs.Common.{refl, ◌∙◌, ap, sym, rules, Some}
-use Rattle.std.proofs.lemmas.Option.{IfSome_then}
 use Rattle.tree_machine.specs.Step.{stepped}
-use Rattle.tree_machine.proofs.States.{held_or, step_made, with_held, ready_pieces, thread_read, thread_within}
-use Rattle.tree_machine.proofs.States.{next_place_in_range, reply_room, note_room}
+use Rattle.tree_machine.proofs.States.{held_or, step_made, with_held, ready_pieces, thread_read, next_place_in_range}
 use Rattle.tree_machine.proofs.state.State.make_step.Goals as goal
 
 pub act-requires-clause-place_in_range : goal.act-requires-clause-place_in_range
@@ -16,39 +14,6 @@ act-requires-clause-place_in_range g c =
     ∙ thread_read program state c.args.t access.1 _ c.as_mut_vec-threads.ensures.value c.from-at.ensures in
     rw (held_or _ _ _ c.take.ensures.value there c.place_or-place.ensures c.begin-first.ensures)
     (next_place_in_range program state c.args.t access.1 _ access.0 (bound.lawful c.args.machine))
-
-pub bounds-threads-at : goal.bounds-threads-at
-bounds-threads-at g c =
-    thread_within c.requires.ready.0 c.args.self.now c.args.t c.requires.ready.2.1.1 c.as_slice-threads.ensures
-    c.from-at.ensures
-
-pub index_mut-moved-requires : goal.index_mut-moved-requires
-index_mut-moved-requires g c =
-    let within = thread_within c.requires.ready.0 c.args.self.now c.args.t c.requires.ready.2.1.1
-    c.as_mut_vec-threads.ensures.value c.from-at.ensures in
-    search (rules, within)
-
-pub advance-requires-clause-reply_room : goal.advance-requires-clause-reply_room
-advance-requires-clause-reply_room g c κs within =
-    let program = c.requires.ready.0 in
-    let state = c.args.self.now in
-    let access = c.requires.ready.2.1 in
-    rw (c.index_mut-moved.ensures.value
-    ∙ thread_read program state c.args.t access.1 _ c.as_mut_vec-threads.ensures.value c.from-at.ensures)
-    (reply_room program state c.args.t access.1 (g.M.Machine.rules c.args.machine) access.0 c.requires.ready.2.0)
-
-pub advance-requires-clause-note_room : goal.advance-requires-clause-note_room
-advance-requires-clause-note_room g c κs within =
-    let program = c.requires.ready.0 in
-    let state = c.args.self.now in
-    let access = c.requires.ready.2.1 in
-    let seen = thread_read program state c.args.t access.1 c.index-threads-at.result c.as_slice-threads.ensures
-    c.from-at.ensures in
-    IfSome_then c.note_at_step-note.result c.note_at_step-note.ensures.begun (λ _ begins.
-    rw (c.index_mut-moved.ensures.value
-    ∙ thread_read program state c.args.t access.1 _ c.as_mut_vec-threads.ensures.value c.from-at.ensures)
-    (note_room program state c.args.t access.1 (g.M.Machine.rules c.args.machine) access.0 c.requires.ready.2.0
-    (rw seen at begins)))
 
 pub returns : goal.returns
 returns g c =

@@ -1,29 +1,11 @@
 -- The bytes of what stayed are those between the offsets.
-use Rattle.std.proofs.Common.{◌++◌, [], if◌then◌else◌, sym, ap, ◌∙◌, append_assoc}
+use Rattle.std.proofs.Common.{arith, append_assoc}
 use Rattle.std.proofs.lemmas.Result.{on_ok_weaker}
-use Rattle.tree_machine.proofs.Labels.{offsets_in_order, op_log_piece, memory_piece}
+use Rattle.tree_machine.proofs.Labels.{op_log_piece, memory_piece}
 use Rattle.tree_machine.proofs.state.State.put_front.Goals as goal
 
-pub put_piece-requires : goal.put_piece-requires
-put_piece-requires g c =
-    let order = offsets_in_order _ _ _ _ c.requires.offsets _ _ (rw c.reads.ensures at c.end-end.ensures) in
-    record { order = order.0; within = order.2 }
-
-pub put_piece-requires-2 : goal.put_piece-requires-2
-put_piece-requires-2 g c =
-    let order = offsets_in_order _ _ _ _ c.requires.offsets _ _ (rw c.reads.ensures at c.end-end.ensures) in
-    record { order = order.1; within = order.2 }
-
 pub returns-then-did_no_more : goal.returns-then-did_no_more
-returns-then-did_no_more g c =
-    let origin = c.args.origin.now in
-    let mem = c.args.self.now.memory in
-    let front = if origin.undo.now.reads then g.M.Encode.front_code origin.offsets.front mem else [] in
-    let stated = op_log_piece _ _ _ _ c.requires.offsets mem _ _ c.requires.back.same
-    (rw c.reads.ensures at c.end-end.ensures) in
-    on_ok_weaker c.put_piece.result
-    (λ put. put ∙ ap (λ l. c.args.buffer.now ++ l)
-    (stated ∙ ap (λ l. l ++ front) (sym (c.did_no_more.ensures c.if-did_no_more.true)))) c.put_piece.ensures
+returns-then-did_no_more g c = grind (arith, on_ok_weaker, op_log_piece)
 
 pub returns : goal.returns
 returns g c =

@@ -1,19 +1,8 @@
 use Rattle.std.proofs.Common.{◌∙◌, refl, sym, append-nil}
 use Rattle.std.proofs.lemmas.Result.{on_ok_weaker}
 use Rattle.tree_machine.specs.FormCode.{cut_code}
-use Rattle.tree_machine.proofs.Forms.{held_in_range}
 use Rattle.tree_machine.proofs.Labels.{read_from}
 use Rattle.tree_machine.proofs.state.State.put_rest.Goals as goal
-
-pub write_behind-requires-clause-places_in_range : goal.write_behind-requires-clause-places_in_range
-write_behind-requires-clause-places_in_range g c =
-    rw c.as_slice-threads.ensures
-    (held_in_range (g.M.Machine.rules c.args.machine) c.requires.fits.0 c.args.self.now c.requires.fits.2)
-
-pub write_code-requires-clause-places_in_range : goal.write_code-requires-clause-places_in_range
-write_code-requires-clause-places_in_range g c =
-    rw c.as_slice-threads.ensures
-    (held_in_range (g.M.Machine.rules c.args.machine) c.requires.fits.0 c.args.self.now c.requires.fits.2)
 
 pub write_behind-requires-clause-read : goal.write_behind-requires-clause-read
 write_behind-requires-clause-read g c =

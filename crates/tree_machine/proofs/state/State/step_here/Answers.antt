@@ -1,17 +1,13 @@
 -- The thread has a step where it is ready, and the access makes the state after it.
-use Rattle.std.proofs.Common.{refl}
+use Rattle.std.proofs.Common.{arith}
 use Rattle.tree_machine.proofs.States.{step_by, step_fits}
 use Rattle.tree_machine.proofs.state.State.step_here.Goals as goal
 
 pub make_step-requires-clause-ready : goal.make_step-requires-clause-ready
-make_step-requires-clause-ready g c κs within =
-    let access = c.in-Some.ensures.some in
-    (c.args.program.now, access.0, (c.in-Some.ensures.limits, (c.requires.fits, access.1)))
+make_step-requires-clause-ready g c κs within = grind arith
 
 pub returns-clause-step : goal.returns-clause-step
-returns-clause-step g c =
-    step_by (g.M.Machine.rules c.args.machine) c.args.program.now c.args.self.now c.args.t c.in-Some.ensures.some.1
-    refl c.in_ok-make_step.ensures.was c.in_ok-make_step.ensures.step
+returns-clause-step g c = grind (arith, step_by)
 
 pub returns-clause-fits : goal.returns-clause-fits
 returns-clause-fits g c =
