@@ -3,8 +3,7 @@ use Rattle.std.proofs.Common.{◌≡◌, ℕ, suc, ◌+◌, Bool, true, false, c
 use Rattle.std.proofs.Common.{ap, subst, arith}
 use Rattle.std.specs.Prelude.{Some, slice_get, unwrap_or, nat_lt}
 use Rattle.ellen.specs.declared.memory.UpdateWord.TheVariants.{Untouched}
-use Rattle.ellen.specs.declared.memory.Node.TheVariants.{Leaf, Internal}
-use Rattle.ellen.specs.declared.memory.EllenMem.{EllenMem}
+use Rattle.ellen.specs.Types.{Leaf, Internal, EllenMem}
 use Rattle.ellen.specs.Memory.{key_in, key_at, internal_over, with_internal, new_internal}
 
 get_third : {A : Type 0} (xs : List A) (a b c : A) → slice_get (xs ++ a ∷ b ∷ c ∷ []) (length xs + 2) ≡ Some c

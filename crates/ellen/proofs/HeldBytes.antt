@@ -9,9 +9,7 @@ use Rattle.std.proofs.lemmas.List.Elements.{All-head, All-tail}
 use Rattle.tree_machine.specs.Flat.{number_code, reference_number, short_head, headed, facts_code, cell_code}
 use Rattle.tree_machine.specs.Flat.{part_content}
 use Rattle.tree_machine.specs.Laws.SmallCodes.{small_code}
-use Rattle.ellen.specs.declared.place.HelpLoc.{HelpLoc}
-use Rattle.ellen.specs.declared.place.Resume.{Resume}
-use Rattle.ellen.specs.declared.place.EllenLoc.TheVariants.{Help}
+use Rattle.ellen.specs.Types.{Resume, HelpLoc, Help}
 use Rattle.ellen.specs.Parts.{help_number, help_side, help_record, help_node, base_number}
 use Rattle.ellen.specs.Parts.{place_part}
 

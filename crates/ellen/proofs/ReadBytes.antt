@@ -3,9 +3,8 @@ use Rattle.std.proofs.Common.{◌≡◌, ℕ, ◌<◌, [], ◌∷◌, ap, sym, �
 use Rattle.std.specs.Prelude.{Option, Some, None}
 use Rattle.tree_machine.specs.Flat.{number_code}
 use Rattle.tree_machine.specs.Laws.SmallCodes.{small_code}
-use Rattle.ellen.specs.declared.memory.UpdateWord.{UpdateWord}
+use Rattle.ellen.specs.Types.{UpdateWord, Above}
 use Rattle.ellen.specs.declared.memory.UpdateWord.TheVariants as word
-use Rattle.ellen.specs.declared.place.Above.{Above}
 use Rattle.ellen.specs.Parts.{word_number, above_number}
 
 word_small : (u : UpdateWord) → word_number u < 5

@@ -1,10 +1,7 @@
 -- The stack of awaited backtracks.
 use Rattle.std.proofs.Common.{◌≡◌, ℕ, Bool, List, [], ◌∷◌, ◌++◌, refl, ap, sym, ◌∙◌}
 use Rattle.tree_machine.specs.declared.machine.Outcome.TheVariants.{Goes}
-use Rattle.ellen.specs.declared.place.Base.{Base}
-use Rattle.ellen.specs.declared.place.Resume.{Resume}
-use Rattle.ellen.specs.declared.place.EllenLoc.TheVariants.{Help}
-use Rattle.ellen.specs.declared.place.HelpLoc.TheVariants.{Back}
+use Rattle.ellen.specs.Types.{Base, Resume, Back, Help}
 use Rattle.ellen.specs.Table.{returned, top_taken}
 
 top_taken-append : (r : ℕ) (stack : List ℕ) (top : ℕ) → top_taken r (stack ++ top ∷ []) ≡ (r ∷ stack, top)

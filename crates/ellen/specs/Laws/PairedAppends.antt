@@ -3,18 +3,12 @@ use Rattle.std.specs.Prelude.{◌≡◌, ℕ, ◌+◌, nat_lt, List, [], ◌∷�
 use Rattle.std.specs.Prelude.{None, refl}
 use Rattle.std.proofs.Common.{ap, inl, inr, arith, length-append}
 use Rattle.std.proofs.lemmas.List.{append_assoc}
-use Rattle.tree_machine.specs.Cells.{IsPairedOrNone}
-use Rattle.tree_machine.specs.Laws.Cells.{AllZip-weaker}
+use Rattle.tree_machine.specs.Laws.PartsExactly.{parts_weaker}
 use Rattle.tree_machine.specs.Laws.PairedRange.{IsCovered, fresh_covers}
 use Rattle.tree_machine.specs.Pairing.{IsAmong, Pairing}
-use Rattle.tree_machine.specs.Parts.{Part, ArePartsPaired}
 use Rattle.tree_machine.proofs.FreshPairs.{choices_paired, fresh_one, fresh_within, fresh_paired}
 use Rattle.ellen.specs.declared.memory.UpdateWord.TheVariants as word
-use Rattle.ellen.specs.declared.memory.Node.{Node}
-use Rattle.ellen.specs.declared.memory.Node.TheVariants.{Leaf, Internal}
-use Rattle.ellen.specs.declared.memory.Record.{Record}
-use Rattle.ellen.specs.declared.memory.EllenMem.{EllenMem}
-use Rattle.ellen.specs.declared.place.EllenLoc.{EllenLoc}
+use Rattle.ellen.specs.Types.{Node, Leaf, Internal, Record, EllenMem, EllenLoc}
 use Rattle.ellen.specs.Memory.{node_at, key_at, internal_over, with_internal, add_record}
 use Rattle.ellen.specs.Pairs.{AreBoth, AreNodesPaired, AreRecordsPaired, ArePlacesPaired, AreMemoriesPaired}
 use Rattle.ellen.specs.Pairs.{ellen_pairs}
@@ -29,32 +23,17 @@ both_weaker S T f None None h = tt
 both_weaker S T f (Some a) (Some b) h = f a b h
 both_weaker S T f _ _ h = absurd h
 
-name_weaker : (P Q : ℕ → ℕ → Type 0) → ((x y : ℕ) → P x y → Q x y) → (a b : Option ℕ) → IsPairedOrNone P a b
-    → IsPairedOrNone Q a b
-name_weaker P Q f None None h = tt
-name_weaker P Q f (Some x) (Some y) h = f x y h
-name_weaker P Q f _ _ h = absurd h
-
 module _ (P Q R S : ℕ → ℕ → Type 0) (f : (x y : ℕ) → P x y → Q x y) (g : (x y : ℕ) → R x y → S x y) where
-  parts_weaker : (a b : Part) → ArePartsPaired P R a b → ArePartsPaired Q S a b
-  parts_weaker a b h =
-      record {
-        facts = h.facts;
-        nodes = AllZip-weaker (IsPairedOrNone P) (IsPairedOrNone Q) (name_weaker P Q f) a.nodes b.nodes h.nodes;
-        records =
-            AllZip-weaker (IsPairedOrNone R) (IsPairedOrNone S) (name_weaker R S g) a.records b.records h.records;
-      }
-
   nodes_weaker : (a b : Node) → AreNodesPaired P R a b → AreNodesPaired Q S a b
-  nodes_weaker a b h = (node_parts Q S a b).1 (parts_weaker _ _ ((node_parts P R a b).0 h))
+  nodes_weaker a b h = (node_parts Q S a b).1 (parts_weaker P Q R S f g _ _ ((node_parts P R a b).0 h))
 
   -- records stay paired
   pub records_weaker : (a b : Record) → AreRecordsPaired P R a b → AreRecordsPaired Q S a b
-  records_weaker a b h = (record_parts Q S a b).1 (parts_weaker _ _ ((record_parts P R a b).0 h))
+  records_weaker a b h = (record_parts Q S a b).1 (parts_weaker P Q R S f g _ _ ((record_parts P R a b).0 h))
 
   -- places stay paired
   pub places_weaker : (a b : EllenLoc) → ArePlacesPaired P R a b → ArePlacesPaired Q S a b
-  places_weaker a b h = (place_parts Q S a b).1 (parts_weaker _ _ ((place_parts P R a b).0 h))
+  places_weaker a b h = (place_parts Q S a b).1 (parts_weaker P Q R S f g _ _ ((place_parts P R a b).0 h))
 
 -- ---- a fresh pair
 

@@ -2,34 +2,18 @@
 use Rattle.std.specs.Prelude.{◌≡◌, ℕ, Bool, true, false, nat_eq, List, [], ◌∷◌, ◌++◌, length, Option, Some, None}
 use Rattle.std.specs.Prelude.{refl, if◌then◌else◌}
 use Rattle.std.specs.List.{AllZip}
-use Rattle.std.proofs.Common.{ap, subst, inl, inr}
+use Rattle.std.proofs.Common.{ap, arith, subst, inl, inr}
 use Rattle.sched_program.specs.Program.{key_of}
-use Rattle.sched_program.specs.declared.operation.Op.{Op}
+use Rattle.ellen.specs.Types.{Op, Outcome, Ellen, UpdateWord, Node, Leaf, Internal, Record, Ins, Del, EllenMem, Above}
+use Rattle.ellen.specs.Types.{Base, Resume, SearchLoc, Update, Child, IFlag, InsOnly, DFlag, HelpLoc, InsChild}
+use Rattle.ellen.specs.Types.{InsClean, Mark, Right, Other, Splice, DelClean, Back, EllenLoc, Search, Help}
 use Rattle.sched_program.specs.declared.operation.Op.TheVariants.{Insert, Delete, Find}
 use Rattle.tree_machine.specs.Pairing.{IsAmong, Pairing, AreOutcomesPaired}
 use Rattle.tree_machine.specs.Laws.PairedRange.{fresh_covers}
 use Rattle.tree_machine.specs.SearchOrder.{side_of}
-use Rattle.tree_machine.specs.declared.machine.Outcome.{Outcome}
 use Rattle.tree_machine.specs.declared.search_order.Side.TheVariants as side
-use Rattle.ellen.specs.declared.memory.UpdateWord.{UpdateWord}
 use Rattle.ellen.specs.declared.memory.UpdateWord.TheVariants as word
-use Rattle.ellen.specs.declared.memory.Node.{Node}
-use Rattle.ellen.specs.declared.memory.Node.TheVariants.{Leaf, Internal}
-use Rattle.ellen.specs.declared.memory.Record.{Record}
-use Rattle.ellen.specs.declared.memory.Record.TheVariants.{Ins, Del}
-use Rattle.ellen.specs.declared.memory.EllenMem.{EllenMem}
-use Rattle.ellen.specs.declared.place.Above.{Above}
-use Rattle.ellen.specs.declared.place.Base.{Base}
 use Rattle.ellen.specs.declared.place.Base.TheVariants as base
-use Rattle.ellen.specs.declared.place.Resume.{Resume}
-use Rattle.ellen.specs.declared.place.SearchLoc.{SearchLoc}
-use Rattle.ellen.specs.declared.place.SearchLoc.TheVariants.{Update, Child, IFlag, InsOnly, DFlag}
-use Rattle.ellen.specs.declared.place.HelpLoc.{HelpLoc}
-use Rattle.ellen.specs.declared.place.HelpLoc.TheVariants.{InsChild, InsClean, Mark, Right, Other, Splice, DelClean}
-use Rattle.ellen.specs.declared.place.HelpLoc.TheVariants.{Back}
-use Rattle.ellen.specs.declared.place.EllenLoc.{EllenLoc}
-use Rattle.ellen.specs.declared.place.EllenLoc.TheVariants.{Search, Help}
-use Rattle.ellen.specs.declared.machine.Ellen.{Ellen}
 use Rattle.ellen.specs.Memory.{is_word, is_clean, with_internal, new_internal}
 use Rattle.ellen.specs.Table.{with_base, settled, top_taken, unwound, returned, marking, help, help_first}
 use Rattle.ellen.specs.Table.{flagging, decide, arrived, search_act, unflagged, help_act, act}
@@ -102,11 +86,7 @@ module _ (p : Pairing) (root : IsAmong p.nodes 0 0) where
 
   clean_paired : (u v : UpdateWord) → AreWordsPaired R u v → is_clean u ≡ is_clean v
   clean_paired word.Untouched word.Untouched h = refl
-  clean_paired (word.Clean r) (word.Clean s) h = refl
-  clean_paired (word.InsertFlag r) (word.InsertFlag s) h = refl
-  clean_paired (word.DeleteFlag r) (word.DeleteFlag s) h = refl
-  clean_paired (word.Mark r) (word.Mark s) h = refl
-  clean_paired _ _ h = absurd h
+  clean_paired u v h = search arith
 
   flagging_paired : (machine : Ellen) (x y : Above) (l n : ℕ) → AreAbovesPaired P R x y → P l n
       → AreSearchesPaired P R (flagging machine x l) (flagging machine y n)

@@ -6,10 +6,7 @@ use Rattle.tree_machine.specs.Pairing.{IsAmong, ArePairsLawful}
 use Rattle.tree_machine.specs.SearchOrder.{KeepsSearchOrder}
 use Rattle.tree_machine.proofs.FreshPairs.{paired_as}
 use Rattle.tree_machine.specs.Laws.SearchOrderPairs.{AreShapesPaired, search_order_paired}
-use Rattle.ellen.specs.declared.memory.Node.{Node}
-use Rattle.ellen.specs.declared.memory.Node.TheVariants.{Leaf, Internal}
-use Rattle.ellen.specs.declared.memory.EllenMem.{EllenMem}
-use Rattle.ellen.specs.declared.machine.Ellen.{Ellen}
+use Rattle.ellen.specs.Types.{Ellen, Node, Leaf, Internal, EllenMem}
 use Rattle.ellen.specs.Memory.{shape_in, shapes}
 use Rattle.ellen.specs.Table.{first_place, act}
 use Rattle.ellen.specs.Pairs.{AreNodesPaired, AreMemoriesPaired, ellen_pairs}

@@ -1,81 +1,47 @@
 -- The numbers of a memory and of places are in range exactly if those of their parts are.
 use Rattle.std.specs.Prelude.{ℕ, ◌<◌, ◌↔◌, List, map, length, Option, Some, None, IfSome, All}
-use Rattle.std.specs.List.{AllByRecursion}
 use Rattle.std.proofs.Common.{arith}
 use Rattle.std.proofs.lemmas.List.{length-map}
 use Rattle.std.proofs.lemmas.List.Elements.{All-map, All-from_recursion, recursion_from_All}
-use Rattle.tree_machine.specs.Parts.{Part, IsPartBelow, ArePartsInRange}
+use Rattle.tree_machine.specs.Parts.{IsPartBelow, ArePartsInRange}
+use Rattle.tree_machine.specs.Laws.PartsExactly.{in_range_exactly}
 use Rattle.tree_machine.proofs.ValueParts.{from_map, all_below, all_in}
-use Rattle.ellen.specs.declared.memory.Node.{Node}
-use Rattle.ellen.specs.declared.memory.Node.TheVariants.{Leaf, Internal}
-use Rattle.ellen.specs.declared.memory.Record.{Record}
-use Rattle.ellen.specs.declared.memory.Record.TheVariants.{Ins, Del}
-use Rattle.ellen.specs.declared.memory.EllenMem.{EllenMem}
-use Rattle.ellen.specs.declared.place.Above.{Above}
-use Rattle.ellen.specs.declared.place.SearchLoc.{SearchLoc}
-use Rattle.ellen.specs.declared.place.SearchLoc.TheVariants.{Update, Child, IFlag, InsOnly, DFlag}
-use Rattle.ellen.specs.declared.place.EllenLoc.{EllenLoc}
-use Rattle.ellen.specs.declared.place.EllenLoc.TheVariants.{Search, Help}
-use Rattle.ellen.specs.Range.{IsNodeIn, IsRecordIn, IsAboveIn, IsSearchIn, IsPlaceIn, IsInRange, IsPlaceInRange}
-use Rattle.ellen.specs.Parts.{node_part, record_part, above_node, above_record, search_part, place_part, held_part}
+use Rattle.ellen.specs.Types.{Node, Leaf, Record, Ins, EllenMem, SearchLoc, Update, Child}
+use Rattle.ellen.specs.Types.{EllenLoc, Search, Help}
+use Rattle.ellen.specs.Range.{IsNodeIn, IsRecordIn, IsSearchIn, IsPlaceIn, IsInRange, IsPlaceInRange}
+use Rattle.ellen.specs.Parts.{node_part, record_part, search_part, place_part, held_part}
 use Rattle.ellen.specs.Parts.{ellen_parts}
-
-abbrev Below : ℕ → Option ℕ → Type 0
-Below n x = IfSome x (λ y. y < n)
 
 -- ---- the numbers of a value are in range exactly if those of its part are
 
 module _ (n m : ℕ) where
-  -- the numbers that a part names, one by one
-  abbrev AreBelow : Part → Type 0
-  AreBelow p = AllByRecursion (Below n) p.nodes × AllByRecursion (Below m) p.records
-
-  exactly : {T : Type 0} (p : Part) → (T → AreBelow p) → (AreBelow p → T) → T ↔ IsPartBelow n m p
-  exactly p to back = (
-    (λ h. record {
-      nodes = All-from_recursion (Below n) p.nodes (to h).0;
-      records = All-from_recursion (Below m) p.records (to h).1;
-    }),
-    (λ h. back (recursion_from_All (Below n) p.nodes h.nodes, recursion_from_All (Below m) p.records h.records)),
-  )
-
   node_exactly : (node : Node) → IsNodeIn n m node ↔ IsPartBelow n m (node_part node)
-  node_exactly (Leaf k) = exactly _ (λ h. (tt, tt)) (λ h. tt)
-  node_exactly (Internal k u l r) = exactly _ (λ h. ((h.1, (h.2, tt)), (h.0, tt))) (λ h. (h.1.0, h.0.0, h.0.1.0))
+  node_exactly (Leaf k) = in_range_exactly n m _ (λ h. search) (λ h k. search)
+  node_exactly node = in_range_exactly n m _ (λ h. search) (λ h k. search)
 
   record_exactly : (each : Record) → IsRecordIn n m each ↔ IsPartBelow n m (record_part each)
-  record_exactly (Ins i) = exactly _ (λ h. ((h.0, (h.1, (h.2, tt))), tt)) (λ h. (h.0.0, h.0.1.0, h.0.1.1.0))
-  record_exactly (Del d) =
-      exactly _ (λ h. ((h.0, (h.1, (h.2, tt))), (h.3, tt))) (λ h. (h.0.0, h.0.1.0, h.0.1.1.0, h.1.0))
-
-  above_exactly : (a : Option Above) → IfSome a (IsAboveIn n m) ↔ Below n (above_node a) × Below m (above_record a)
-  above_exactly None = (λ h. (tt, tt), λ h. tt)
-  above_exactly (Some a) = (λ h. h, λ h. h)
+  record_exactly (Ins i) = in_range_exactly n m _ (λ h. search) (λ h k. search)
+  record_exactly each = in_range_exactly n m _ (λ h. search) (λ h k. search)
 
   search_exactly : (at : SearchLoc) → IsSearchIn n m at ↔ IsPartBelow n m (search_part at)
-  search_exactly (Update a p) = let above = above_exactly a in
-      exactly _ (λ h. let t = above.0 h.0 in ((t.0, (h.1, tt)), (t.1, tt))) (λ h. (above.1 (h.0.0, h.1.0), h.0.1.0))
-  search_exactly (Child a p u) = let above = above_exactly a in
-      exactly _ (λ h. let t = above.0 h.0 in ((t.0, (h.1, tt)), (t.1, (h.2, tt))))
-      (λ h. (above.1 (h.0.0, h.1.0), h.0.1.0, h.1.1.0))
-  search_exactly (IFlag p u l) = exactly _ (λ h. ((h.0, (h.2, tt)), (h.1, tt))) (λ h. (h.0.0, h.1.0, h.0.1.0))
-  search_exactly (InsOnly p l) = exactly _ (λ h. ((h.0, (h.1, tt)), tt)) (λ h. (h.0.0, h.0.1.0))
-  search_exactly (DFlag a p u l) =
-      exactly _ (λ h. ((h.0.0, (h.1, (h.3, tt))), (h.0.1, (h.2, tt))))
-      (λ h. ((h.0.0, h.1.0), h.0.1.0, h.1.1.0, h.0.1.1.0))
+  search_exactly (Update None p) = in_range_exactly n m _ (λ h. search) (λ h k. search)
+  search_exactly (Child None p u) = in_range_exactly n m _ (λ h. search) (λ h k. search)
+  search_exactly at = in_range_exactly n m _ (λ h. search) (λ h k. search)
 
   place_exactly : (place : EllenLoc) → IsPlaceIn n m place ↔ IsPartBelow n m (place_part place)
   place_exactly (Search at) = search_exactly at
-  place_exactly (Help at resume) = let stack = map Some resume.stack in
-      exactly _
-      (λ h. ((h.0.1, tt), (h.0.0, recursion_from_All (Below m) stack (All-map (Below m) Some resume.stack h.1))))
-      (λ h. (
-        (h.1.0, h.0.0),
-        from_map Some (λ r. r < m) (Below m) (λ r k. k) resume.stack (All-from_recursion (Below m) stack h.1.1),
+  place_exactly (Help at resume) =
+      let stack = map Some resume.stack in
+      let Below : Option ℕ → Type 0 = λ x. IfSome x (λ y. y < m) in
+      in_range_exactly n m _
+      (λ h. ((h.0.1, tt), (h.0.0, recursion_from_All Below stack (All-map Below Some resume.stack h.1))))
+      (λ h k. (
+        (k.0, h.0),
+        from_map Some (λ r. r < m) Below (λ r k. k) resume.stack (All-from_recursion Below stack k.1),
       ))
 
   held_exactly : (held : Option EllenLoc) → IfSome held (IsPlaceIn n m) ↔ IsPartBelow n m (held_part held)
-  held_exactly None = exactly _ (λ h. (tt, tt)) (λ h. tt)
+  held_exactly None = in_range_exactly n m _ (λ h. (tt, tt)) (λ h k. tt)
   held_exactly (Some place) = place_exactly place
 
 -- ---- a memory and the places held
