@@ -2,7 +2,6 @@
 pub mod Astray
 pub mod Codes
 pub mod Exact
-pub mod Forms
 pub mod Initial
 pub mod Pairs
 pub mod PairedAccesses

@@ -12,10 +12,8 @@ use Rattle.natmit.specs.contracts.place.ModePartialEq.TheImpl.{eq-value as mode_
 use Rattle.natmit.specs.contracts.place.PathPartialEq.TheImpl.{eq-value as path_eq}
 use Rattle.natmit.specs.contracts.place.NatMitLocPartialEq.TheImpl.{eq-value as place_eq}
 use Rattle.natmit.specs.contracts.machine.NatMitPartialEq.TheImpl.{eq-value as machine_eq}
-use Rattle.natmit.specs.declared.memory.Node.TheVariants.{Leaf, Internal}
-use Rattle.natmit.specs.declared.place.Mode.TheVariants.{Plain, Owner}
-use Rattle.natmit.specs.declared.place.NatMitLoc.TheVariants.{Begin, Down, Put, Flag, Look, CleanRead, Tag, Sibling}
-use Rattle.natmit.specs.declared.place.NatMitLoc.TheVariants.{Swing}
+use Rattle.natmit.specs.Types.{Leaf, Internal, Plain, Owner, Begin, Down, Put, Flag, Look, CleanRead, Tag, Sibling}
+use Rattle.natmit.specs.Types.{Swing}
 use Rattle.natmit.specs.Table.{path_of}
 
 pub word_exact : IsExact word_eq.it

@@ -1,23 +1,16 @@
 -- What is read of paired memories is paired, and each kind of access keeps a pairing.
 use Rattle.std.specs.Prelude.{◌≡◌, ℕ, not, ◌&&◌, nat_eq, refl, Option, Some, None, unwrap_or}
-use Rattle.std.proofs.Common.{ap, subst}
+use Rattle.std.proofs.Common.{ap, arith, subst}
 use Rattle.std.proofs.lemmas.List.{length-set}
-use Rattle.tree_machine.specs.declared.search_order.Side.{Side}
-use Rattle.tree_machine.specs.declared.search_order.Side.TheVariants.{Left, Right}
+use Rattle.natmit.specs.Types.{Outcome, Side, Left, Word, Node, Leaf, NatMitMem, NatMitLoc}
 use Rattle.tree_machine.specs.SearchOrder.{side_of}
 use Rattle.tree_machine.specs.Pairing.{Pairing, Extends, IsAmong, IsOneToOne, AreHeldPaired, AreOutcomesPaired}
 use Rattle.tree_machine.specs.Pairing.{AreStepsPaired}
 use Rattle.tree_machine.proofs.FreshPairs.{choices_paired, same_number, within_set, paired_set}
 use Rattle.tree_machine.specs.Laws.PairedRange.{IsCovered}
-use Rattle.natmit.specs.declared.memory.Word.{Word}
-use Rattle.natmit.specs.declared.memory.Node.{Node}
-use Rattle.natmit.specs.declared.memory.Node.TheVariants.{Leaf, Internal}
-use Rattle.natmit.specs.declared.memory.NatMitMem.{NatMitMem}
 use Rattle.natmit.specs.Memory.{is_plain, key_in, word_on, with_word, node_at, side_at, set_word}
 use Rattle.natmit.specs.Pairs.{AreWordsPaired, AreNodesPaired, AreMemoriesPaired, ArePlacesPaired, natmit_pairs}
-use Rattle.tree_machine.specs.declared.machine.Outcome.{Outcome}
 use Rattle.tree_machine.specs.declared.machine.Outcome.TheVariants.{Astray}
-use Rattle.natmit.specs.declared.place.NatMitLoc.{NatMitLoc}
 use Rattle.natmit.specs.Table.{After, found, after_read, after_exchange, after_tag}
 
 -- ---- what is read of paired nodes
@@ -25,8 +18,7 @@ use Rattle.natmit.specs.Table.{After, found, after_read, after_exchange, after_t
 module _ (P : ℕ → ℕ → Type 0) where
   pub key_paired : (a b : Node) → AreNodesPaired P a b → key_in a ≡ key_in b
   key_paired (Leaf k) (Leaf j) h = h
-  key_paired (Internal k l r) (Internal j m s) h = h.0
-  key_paired _ _ h = absurd h
+  key_paired a b h = search arith
 
   -- nodes that may be there, as they are read
   abbrev pub AreFoundPaired : Option Node → Option Node → Type 0
@@ -37,17 +29,13 @@ module _ (P : ℕ → ℕ → Type 0) where
   AreReadsPaired v w = AreHeldPaired (AreWordsPaired P) v w
 
   word_paired : (d : Side) (a b : Node) → AreNodesPaired P a b → AreReadsPaired (word_on d a) (word_on d b)
-  word_paired d (Leaf k) (Leaf j) h = tt
-  word_paired Left (Internal k l r) (Internal j m s) h = h.1
-  word_paired Right (Internal k l r) (Internal j m s) h = h.2
-  word_paired _ _ _ h = absurd h
+  word_paired Left (Leaf k) (Leaf j) h = tt
+  word_paired d a b h = search arith
 
   with_word_paired : (d : Side) (v w : Word) (a b : Node) → AreNodesPaired P a b → AreWordsPaired P v w
       → AreNodesPaired P (with_word d v a) (with_word d w b)
-  with_word_paired d v w (Leaf k) (Leaf j) h g = h
-  with_word_paired Left v w (Internal k l r) (Internal j m s) h g = (h.0, g, h.2)
-  with_word_paired Right v w (Internal k l r) (Internal j m s) h g = (h.0, h.1, g)
-  with_word_paired _ v w _ _ h g = absurd h
+  with_word_paired Left v w (Leaf k) (Leaf j) h g = h
+  with_word_paired d v w a b h g = search arith
 
   -- exchanges that compare with the plain word of paired nodes succeed together
   pub plain_paired : IsOneToOne P → (x y : ℕ) (v w : Word) → P x y → AreWordsPaired P v w → is_plain x v ≡ is_plain y w

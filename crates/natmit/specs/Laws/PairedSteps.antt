@@ -1,27 +1,15 @@
 -- Accesses of paired places to paired memories keep a pairing, row by row of the place table.
 use Rattle.std.specs.Prelude.{◌≡◌, ℕ, true, false, ◌&&◌, nat_eq, refl, Bool, ◌||◌}
 use Rattle.std.proofs.Common.{ap}
-use Rattle.tree_machine.specs.declared.search_order.Side.{Side}
-use Rattle.tree_machine.specs.declared.search_order.Side.TheVariants.{Left}
+use Rattle.natmit.specs.Types.{Op, Side, Left, NatMit, Word, Node, Leaf, Internal, NatMitMem, Mode, Plain, Owner, Path}
+use Rattle.natmit.specs.Types.{NatMitLoc, Begin, Down, Put, Flag, Look, CleanRead, Tag, Sibling, Swing}
 use Rattle.tree_machine.specs.Pairing.{Pairing, IsAmong, IsOneToOne}
 use Rattle.tree_machine.proofs.FreshPairs.{choices_paired, same_number}
-use Rattle.natmit.specs.declared.memory.Word.{Word}
-use Rattle.natmit.specs.declared.memory.Node.{Node}
-use Rattle.natmit.specs.declared.memory.Node.TheVariants.{Leaf, Internal}
-use Rattle.natmit.specs.declared.memory.NatMitMem.{NatMitMem}
 use Rattle.natmit.specs.Memory.{plain, node_at, side_at, with_internal, new_internal}
 use Rattle.natmit.specs.Pairs.{AreWordsPaired, AreNodesPaired, AreMemoriesPaired, AreModesPaired, ArePathsPaired}
 use Rattle.natmit.specs.Pairs.{ArePlacesPaired}
 use Rattle.sched_program.specs.Program.{key_of}
-use Rattle.sched_program.specs.declared.operation.Op.{Op}
 use Rattle.sched_program.specs.declared.operation.Op.TheVariants.{Insert, Delete, Find}
-use Rattle.natmit.specs.declared.place.Mode.{Mode}
-use Rattle.natmit.specs.declared.place.Mode.TheVariants.{Plain, Owner}
-use Rattle.natmit.specs.declared.place.Path.{Path}
-use Rattle.natmit.specs.declared.place.NatMitLoc.{NatMitLoc}
-use Rattle.natmit.specs.declared.place.NatMitLoc.TheVariants.{Begin, Down, Put, Flag, Look, CleanRead, Tag, Sibling}
-use Rattle.natmit.specs.declared.place.NatMitLoc.TheVariants.{Swing}
-use Rattle.natmit.specs.declared.machine.NatMit.{NatMit}
 use Rattle.natmit.specs.Table.{other_side, path_of, path_below, arrived, went_down, looked, tagging, clean_read, swung}
 use Rattle.natmit.specs.Table.{act}
 use Rattle.natmit.specs.Laws.PairedAccesses.{AreGoingAlike, AreAccessesPaired, unchanged, side_paired, read_keeps}

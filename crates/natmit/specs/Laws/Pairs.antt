@@ -4,16 +4,11 @@ use Rattle.std.specs.Prelude.{ℕ, Some, ◌↔◌}
 use Rattle.tree_machine.specs.SearchOrder.{KeepsSearchOrder}
 use Rattle.tree_machine.proofs.FreshPairs.{paired_as}
 use Rattle.tree_machine.specs.Pairing.{Pairing, IsAmong, ArePairsLawful}
-use Rattle.natmit.specs.declared.memory.Node.{Node}
-use Rattle.natmit.specs.declared.memory.Node.TheVariants.{Leaf, Internal}
-use Rattle.natmit.specs.declared.memory.NatMitMem.{NatMitMem}
+use Rattle.natmit.specs.Types.{NatMit, Node, Leaf, Internal, NatMitMem, Plain, Begin}
 use Rattle.natmit.specs.Memory.{shape_in, shapes}
 use Rattle.natmit.specs.Pairs.{AreNodesPaired, AreMemoriesPaired, natmit_pairs}
 use Rattle.std.specs.Option.{option_map}
 use Rattle.tree_machine.specs.Laws.SearchOrderPairs.{AreShapesPaired, search_order_paired}
-use Rattle.natmit.specs.declared.place.Mode.TheVariants.{Plain}
-use Rattle.natmit.specs.declared.place.NatMitLoc.TheVariants.{Begin}
-use Rattle.natmit.specs.declared.machine.NatMit.{NatMit}
 use Rattle.natmit.specs.Table.{act}
 use Rattle.natmit.specs.Laws.PairedAccesses.{AreFoundPaired}
 use Rattle.natmit.specs.Laws.PairedAppends.{places_extend}

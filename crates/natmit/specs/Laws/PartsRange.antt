@@ -1,72 +1,34 @@
 -- The numbers of a memory and of places are in range exactly if those of their parts are.
-use Rattle.std.specs.Prelude.{ℕ, ◌<◌, ◌↔◌, List, [], ◌∷◌, map, length, Option, Some, None, IfSome, All, refl}
-use Rattle.std.specs.List.{AllByRecursion}
+use Rattle.std.specs.Prelude.{ℕ, ◌↔◌, List, map, length, Option, Some, None, IfSome, All, refl}
 use Rattle.std.proofs.Common.{arith}
 use Rattle.std.proofs.lemmas.List.{length-map}
-use Rattle.std.proofs.lemmas.List.Elements.{All-nil, All-from_recursion, recursion_from_All}
+use Rattle.std.proofs.lemmas.List.Elements.{All-nil}
 use Rattle.tree_machine.specs.Parts.{IsPartBelow, ArePartsInRange}
+use Rattle.tree_machine.specs.Laws.PartsExactly.{in_range_exactly}
 use Rattle.tree_machine.proofs.ValueParts.{all_below, all_in}
-use Rattle.natmit.specs.declared.memory.Node.{Node}
-use Rattle.natmit.specs.declared.memory.Node.TheVariants.{Leaf, Internal}
-use Rattle.natmit.specs.declared.memory.NatMitMem.{NatMitMem}
-use Rattle.natmit.specs.declared.place.Mode.{Mode}
-use Rattle.natmit.specs.declared.place.Mode.TheVariants.{Plain, Owner}
-use Rattle.natmit.specs.declared.place.Path.{Path}
-use Rattle.natmit.specs.declared.place.NatMitLoc.{NatMitLoc}
-use Rattle.natmit.specs.declared.place.NatMitLoc.TheVariants.{Begin, Down, Put, Flag, Look, CleanRead, Tag, Sibling}
-use Rattle.natmit.specs.declared.place.NatMitLoc.TheVariants.{Swing}
-use Rattle.natmit.specs.Range.{IsNodeIn, IsModeIn, IsPathIn, IsPlaceIn, IsInRange, IsPlaceInRange}
-use Rattle.natmit.specs.Parts.{owned, part_of, node_part, path_part, place_part, held_part, natmit_parts}
+use Rattle.natmit.specs.Types.{Node, Leaf, NatMitMem, Plain, NatMitLoc, Begin, Down}
+use Rattle.natmit.specs.Types.{CleanRead, Tag, Sibling, Swing}
+use Rattle.natmit.specs.Range.{IsNodeIn, IsPlaceIn, IsInRange, IsPlaceInRange}
+use Rattle.natmit.specs.Parts.{node_part, place_part, held_part, natmit_parts}
 
 -- ---- the numbers of a value are in range exactly if those of its part are
 
 module _ (n r : ℕ) where
-  abbrev IsBelow : Option ℕ → Type 0
-  IsBelow o = IfSome o (λ x. x < n)
-
-  exactly : {T : Type 0} (facts : List ℕ) (nodes : List (Option ℕ)) → (T → AllByRecursion IsBelow nodes)
-      → (AllByRecursion IsBelow nodes → T) → T ↔ IsPartBelow n r (part_of facts nodes)
-  exactly facts nodes to back = (
-    (λ h. record { nodes = All-from_recursion IsBelow nodes (to h); records = All-nil (λ o. IfSome o (λ x. x < r)) }),
-    (λ h. back (recursion_from_All IsBelow nodes h.nodes)),
-  )
-
-  mode_exactly : (m : Mode) → IsModeIn n m ↔ IsBelow (owned m)
-  mode_exactly Plain = (λ h. h, λ h. h)
-  mode_exactly (Owner o) = (λ h. h, λ h. h)
-
   node_exactly : (node : Node) → IsNodeIn n node ↔ IsPartBelow n r (node_part node)
-  node_exactly (Leaf k) = exactly _ _ (λ h. tt) (λ h. tt)
-  node_exactly (Internal k left right) = exactly _ _ (λ h. (h.0, (h.1, tt))) (λ h. (h.0, h.1.0))
-
-  -- a path and the leaf l, or the leaf that a mode owns
-  leaf_exactly : (facts : List ℕ) (p : Path) (l : ℕ)
-      → IsPathIn n p × (l < n) ↔ IsPartBelow n r (path_part facts p (Some l ∷ []))
-  leaf_exactly facts p l =
-      exactly _ _ (λ h. (h.0.0, (h.0.1, (h.0.2, (h.1, tt))))) (λ h. ((h.0, h.1.0, h.1.1.0), h.1.1.1.0))
-
-  owner_exactly : (facts : List ℕ) (p : Path) (m : Mode)
-      → IsPathIn n p × IsModeIn n m ↔ IsPartBelow n r (path_part facts p (owned m ∷ []))
-  owner_exactly facts p m = let mode = mode_exactly m in
-      exactly _ _ (λ h. (h.0.0, (h.0.1, (h.0.2, (mode.0 h.1, tt)))))
-      (λ h. ((h.0, h.1.0, h.1.1.0), mode.1 h.1.1.1.0))
+  node_exactly (Leaf k) = in_range_exactly n r _ (λ h. search) (λ h k. search)
+  node_exactly node = in_range_exactly n r _ (λ h. search) (λ h k. search)
 
   place_exactly : (place : NatMitLoc) → IsPlaceIn n place ↔ IsPartBelow n r (place_part place)
-  place_exactly (Begin m) = let mode = mode_exactly m in exactly _ _ (λ h. (mode.0 h, tt)) (λ h. mode.1 h.0)
-  place_exactly (Down p l t m) = let mode = mode_exactly m in
-      exactly _ _ (λ h. (h.0.0, (h.0.1, (h.0.2, (h.1, (mode.0 h.2, tt))))))
-      (λ h. ((h.0, h.1.0, h.1.1.0), h.1.1.1.0, mode.1 h.1.1.1.1.0))
-  place_exactly (Put p l) = leaf_exactly _ p l
-  place_exactly (Flag p l) = leaf_exactly _ p l
-  place_exactly (Look p l) = leaf_exactly _ p l
-  place_exactly (CleanRead p m) = owner_exactly _ p m
-  place_exactly (Tag p d m) = owner_exactly _ p m
-  place_exactly (Sibling p d m) = owner_exactly _ p m
-  place_exactly (Swing a s f x m) = let mode = mode_exactly m in
-      exactly _ _ (λ h. (h.0, (h.1, (h.2, (mode.0 h.3, tt))))) (λ h. (h.0, h.1.0, h.1.1.0, mode.1 h.1.1.1.0))
+  place_exactly (Begin Plain) = in_range_exactly n r _ (λ h. search) (λ h k. search)
+  place_exactly (Down p l t Plain) = in_range_exactly n r _ (λ h. search) (λ h k. search)
+  place_exactly (CleanRead p Plain) = in_range_exactly n r _ (λ h. search) (λ h k. search)
+  place_exactly (Tag p d Plain) = in_range_exactly n r _ (λ h. search) (λ h k. search)
+  place_exactly (Sibling p d Plain) = in_range_exactly n r _ (λ h. search) (λ h k. search)
+  place_exactly (Swing a s f x Plain) = in_range_exactly n r _ (λ h. search) (λ h k. search)
+  place_exactly place = in_range_exactly n r _ (λ h. search) (λ h k. search)
 
   held_exactly : (place : Option NatMitLoc) → IfSome place (IsPlaceIn n) ↔ IsPartBelow n r (held_part place)
-  held_exactly None = exactly _ _ (λ h. tt) (λ h. tt)
+  held_exactly None = in_range_exactly n r _ (λ h. (tt, tt)) (λ h k. tt)
   held_exactly (Some place) = place_exactly place
 
 -- ---- a memory and the places held

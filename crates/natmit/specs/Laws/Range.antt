@@ -4,15 +4,12 @@ use Rattle.std.specs.Prelude.{List, [], length, Option, IfSome, All}
 use Rattle.std.specs.List.{AllZip}
 use Rattle.std.proofs.Common.{arith}
 use Rattle.std.proofs.lemmas.List.{length-map}
-use Rattle.sched_program.specs.declared.operation.Op.{Op}
+use Rattle.natmit.specs.Types.{Op, NatMit, NatMitMem, NatMitLoc}
 use Rattle.tree_machine.specs.Pairing.{Pairing, IsAmong, AreHeldPaired}
 use Rattle.tree_machine.specs.Parts.{IsPartsPairing}
 use Rattle.tree_machine.specs.Rules.{IsOutcomeInRange}
 use Rattle.tree_machine.specs.Laws.PairedRange.{selves, selves_cover, self_pairing, paired_in_range}
 use Rattle.tree_machine.specs.Laws.PairedRange.{act_kept as kept_by_pairs}
-use Rattle.natmit.specs.declared.machine.NatMit.{NatMit}
-use Rattle.natmit.specs.declared.memory.NatMitMem.{NatMitMem}
-use Rattle.natmit.specs.declared.place.NatMitLoc.{NatMitLoc}
 use Rattle.natmit.specs.NatMitRules.{natmit_rules}
 use Rattle.natmit.specs.Pairs.{AreMemoriesPaired, ArePlacesPaired}
 use Rattle.natmit.specs.Parts.{natmit_parts}
