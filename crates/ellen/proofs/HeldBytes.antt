@@ -10,8 +10,7 @@ use Rattle.tree_machine.specs.Flat.{number_code, reference_number, short_head, h
 use Rattle.tree_machine.specs.Flat.{part_content}
 use Rattle.tree_machine.specs.Laws.SmallCodes.{small_code}
 use Rattle.ellen.specs.Types.{Resume, HelpLoc, Help}
-use Rattle.ellen.specs.Parts.{help_number, help_side, help_record, help_node, base_number}
-use Rattle.ellen.specs.Parts.{place_part}
+use Rattle.ellen.specs.Parts.{help_number, help_side, help_record, help_node, base_number, place_part}
 
 -- ---- a stack
 

@@ -9,10 +9,7 @@ use Rattle.ellen.specs.Parts.{word_number, above_number}
 
 word_small : (u : UpdateWord) → word_number u < 5
 word_small word.Untouched = omega arith
-word_small (word.Clean r) = omega arith
-word_small (word.InsertFlag r) = omega arith
-word_small (word.DeleteFlag r) = omega arith
-word_small (word.Mark r) = omega arith
+word_small u = omega arith
 
 above_small : (a : Option Above) → above_number a < 6
 above_small None = omega arith

@@ -1,7 +1,6 @@
 -- The stack of awaited backtracks.
 use Rattle.std.proofs.Common.{◌≡◌, ℕ, Bool, List, [], ◌∷◌, ◌++◌, refl, ap, sym, ◌∙◌}
-use Rattle.tree_machine.specs.declared.machine.Outcome.TheVariants.{Goes}
-use Rattle.ellen.specs.Types.{Base, Resume, Back, Help}
+use Rattle.ellen.specs.Types.{Goes, Base, Resume, Back, Help}
 use Rattle.ellen.specs.Table.{returned, top_taken}
 
 top_taken-append : (r : ℕ) (stack : List ℕ) (top : ℕ) → top_taken r (stack ++ top ∷ []) ≡ (r ∷ stack, top)

@@ -3,8 +3,7 @@ use Rattle.std.specs.Prelude.{◌≡◌, ℕ, suc, List, [], ◌∷◌, ◌++◌
 use Rattle.tree_machine.specs.Canonical.{canonical_code}
 use Rattle.tree_machine.specs.Flat.{all_front, behind_code, cell_code, front_code, part_content, parts_code}
 use Rattle.tree_machine.specs.Parts.{Part, Parts, no_part}
-use Rattle.tree_machine.specs.declared.front.Front.{Front}
-use Rattle.ellen.specs.Types.{Side, UpdateWord, Node, Leaf, Internal, Record, Ins, Del, EllenMem, Above, Base}
+use Rattle.ellen.specs.Types.{Front, Side, UpdateWord, Node, Leaf, Internal, Record, Ins, Del, EllenMem, Above, Base}
 use Rattle.ellen.specs.Types.{SearchLoc, Update, Child, IFlag, InsOnly, DFlag, HelpLoc, InsChild, InsClean, Mark, Right}
 use Rattle.ellen.specs.Types.{Other, Splice, DelClean, Back, EllenLoc, Search, Help}
 use Rattle.tree_machine.specs.declared.search_order.Side.TheVariants as side

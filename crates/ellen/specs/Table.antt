@@ -2,11 +2,10 @@
 use Rattle.std.specs.Prelude.{ℕ, Bool, true, false, if◌then◌else◌, nat_eq, List, [], ◌∷◌, ◌++◌, length, Option, Some}
 use Rattle.std.specs.Prelude.{None}
 use Rattle.sched_program.specs.Program.{key_of}
-use Rattle.ellen.specs.Types.{Op, Outcome, Side, Ellen, UpdateWord, Node, Leaf, Internal, Ins, Del, EllenMem, Above}
-use Rattle.ellen.specs.Types.{Base, Resume, SearchLoc, Update, Child, IFlag, InsOnly, DFlag, HelpLoc, InsChild}
-use Rattle.ellen.specs.Types.{InsClean, Mark, Right, Other, Splice, DelClean, Back, EllenLoc, Search, Help}
-use Rattle.sched_program.specs.declared.operation.Op.TheVariants.{Insert, Delete, Find}
-use Rattle.tree_machine.specs.declared.machine.Outcome.TheVariants.{Goes, Replies, Astray}
+use Rattle.ellen.specs.Types.{Op, Insert, Delete, Find, Outcome, Goes, Replies, Astray, Side, Ellen, UpdateWord, Node}
+use Rattle.ellen.specs.Types.{Leaf, Internal, Ins, Del, EllenMem, Above, Base, Resume, SearchLoc, Update, Child, IFlag}
+use Rattle.ellen.specs.Types.{InsOnly, DFlag, HelpLoc, InsChild, InsClean, Mark, Right, Other, Splice, DelClean, Back}
+use Rattle.ellen.specs.Types.{EllenLoc, Search, Help}
 use Rattle.ellen.specs.declared.memory.UpdateWord.TheVariants as word
 use Rattle.tree_machine.specs.declared.search_order.Side.TheVariants as side
 use Rattle.tree_machine.specs.SearchOrder.{side_of}

@@ -1,10 +1,9 @@
 -- An access that goes astray leaves the memory as it was.
 use Rattle.std.specs.Prelude.{◌≡◌, ℕ, Bool, true, false, if◌then◌else◌, nat_eq, List, [], ◌∷◌, refl, Option, Some, None}
 use Rattle.std.proofs.Common.{arith}
-use Rattle.ellen.specs.Types.{Op, Outcome, Ellen, UpdateWord, EllenMem, Base, Resume, SearchLoc, Update, Child}
-use Rattle.ellen.specs.Types.{IFlag, InsOnly, DFlag, HelpLoc, InsChild, InsClean, Mark, Right, Other, Splice, DelClean}
-use Rattle.ellen.specs.Types.{Back, EllenLoc, Search, Help}
-use Rattle.tree_machine.specs.declared.machine.Outcome.TheVariants.{Goes, Replies, Astray}
+use Rattle.ellen.specs.Types.{Op, Outcome, Goes, Replies, Astray, Ellen, UpdateWord, EllenMem, Base, Resume, SearchLoc}
+use Rattle.ellen.specs.Types.{Update, Child, IFlag, InsOnly, DFlag, HelpLoc, InsChild, InsClean, Mark, Right, Other}
+use Rattle.ellen.specs.Types.{Splice, DelClean, Back, EllenLoc, Search, Help}
 use Rattle.ellen.specs.declared.place.Base.TheVariants as base
 use Rattle.tree_machine.specs.declared.search_order.Side.TheVariants as side
 use Rattle.ellen.specs.Memory.{child_on, is_word, node_at, record_at, insert_of, delete_of}

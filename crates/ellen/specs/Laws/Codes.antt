@@ -9,18 +9,16 @@ use Rattle.tree_machine.specs.Pairing.{AreHeldPaired}
 use Rattle.tree_machine.specs.Laws.PartForms.{parts_tell_wholly, part_forms_exact, parts_decode}
 use Rattle.tree_machine.specs.Rules.{AreFormsExact, DecodesForms}
 use Rattle.tree_machine.proofs.ValueParts.{Same, values_equal}
-use Rattle.tree_machine.specs.declared.front.Front.{Front}
-use Rattle.ellen.specs.Types.{Ellen, UpdateWord, Node, Leaf, Internal, Record, Ins, Del, EllenMem, Above, Resume}
-use Rattle.ellen.specs.Types.{SearchLoc, Update, Child, IFlag, InsOnly, DFlag, HelpLoc, InsChild}
-use Rattle.ellen.specs.Types.{EllenLoc, Search, Help}
+use Rattle.ellen.specs.Types.{Front, Ellen, UpdateWord, Node, Leaf, Internal, Record, Ins, Del, EllenMem, Above, Resume}
+use Rattle.ellen.specs.Types.{SearchLoc, Update, Child, IFlag, InsOnly, DFlag, HelpLoc, InsChild, EllenLoc, Search}
+use Rattle.ellen.specs.Types.{Help}
 use Rattle.ellen.specs.declared.memory.UpdateWord.TheVariants as word
 use Rattle.ellen.specs.Pairs.{AreBoth, AreWordsPaired, AreNodesPaired, AreRecordsPaired, AreAbovesPaired}
 use Rattle.ellen.specs.Pairs.{AreSearchesPaired, AreHelpsPaired, AreResumesPaired, ArePlacesPaired}
-use Rattle.ellen.specs.Parts.{node_part, record_part, held_part, ellen_parts, ellen_code, ellen_form}
-use Rattle.ellen.specs.Parts.{ellen_front_code, ellen_behind_code}
+use Rattle.ellen.specs.Parts.{node_part, record_part, held_part, ellen_parts, ellen_code, ellen_form, ellen_front_code}
+use Rattle.ellen.specs.Parts.{ellen_behind_code}
 use Rattle.ellen.specs.EllenRules.{ellen_rules}
-use Rattle.ellen.specs.Laws.Parts.{node_parts, record_parts, held_parts, parts_alike}
-use Rattle.ellen.specs.Laws.PartsRange.{parts_in_range, values_in_range}
+use Rattle.ellen.specs.Laws.Parts.{node_parts, record_parts, held_parts, parts_alike, parts_in_range, values_in_range}
 
 -- what equality pairs is equal
 

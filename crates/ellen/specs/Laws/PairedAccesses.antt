@@ -7,9 +7,8 @@ use Rattle.tree_machine.specs.Pairing.{IsAmong, IsOneToOne, Pairing, Extends, Ar
 use Rattle.tree_machine.proofs.FreshPairs.{choices_paired, same_number, within_set, paired_set}
 use Rattle.tree_machine.specs.Laws.PairedRange.{IsCovered}
 use Rattle.tree_machine.specs.SearchOrder.{side_of}
-use Rattle.ellen.specs.Types.{Outcome, Side, UpdateWord, Node, Leaf, InsertRecord, DeleteRecord, Record, Ins}
+use Rattle.ellen.specs.Types.{Outcome, Astray, Side, UpdateWord, Node, Leaf, InsertRecord, DeleteRecord, Record, Ins}
 use Rattle.ellen.specs.Types.{Del, EllenMem, EllenLoc}
-use Rattle.tree_machine.specs.declared.machine.Outcome.TheVariants.{Astray}
 use Rattle.tree_machine.specs.declared.search_order.Side.TheVariants as side
 use Rattle.ellen.specs.declared.memory.UpdateWord.TheVariants as word
 use Rattle.ellen.specs.Memory.{key_in, update_of, child_on, with_update, with_child, is_word, node_at, key_at, set_node}

@@ -23,8 +23,7 @@ use Rattle.tree_machine.proofs.FreshPairs.{choices_paired, same_number}
 use Rattle.ellen.specs.Laws.PairedAccesses.{words_compared, key_paired, with_pairs, read_update_keeps}
 use Rattle.ellen.specs.Laws.PairedAccesses.{read_child_keeps, exchange_update_keeps, exchange_child_keeps}
 use Rattle.ellen.specs.Laws.PairedAccesses.{insert_keeps, delete_keeps, Steps}
-use Rattle.ellen.specs.Laws.PairedAppends.{records_weaker, append_record, append_internal, fresh_nodes}
-use Rattle.ellen.specs.Laws.PairedAppends.{internal_whole}
+use Rattle.ellen.specs.Laws.PairedAppends.{records_weaker, append_record, append_internal, fresh_nodes, internal_whole}
 
 -- ---- where operations go, from paired places
 

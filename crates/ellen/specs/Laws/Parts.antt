@@ -1,23 +1,26 @@
--- Parts are paired exactly where what they are of is paired.
-use Rattle.std.specs.Prelude.{◌≡◌, ◌↔◌, ℕ, ◌<◌, List, length, Option, Some, None, refl, unwrap_or}
+-- Parts are paired, and in range, exactly where what they are of is.
+use Rattle.std.specs.Prelude.{◌≡◌, ◌↔◌, ℕ, ◌<◌, List, length, Option, Some, None, refl, unwrap_or, map, IfSome, All}
 use Rattle.std.specs.List.{AllZip}
 use Rattle.std.proofs.Common.{arith, subst}
 use Rattle.tree_machine.specs.Pairing.{IsAmong, AreHeldPaired, AreAlike}
 use Rattle.tree_machine.specs.Cells.{IsPairedOrNone}
-use Rattle.tree_machine.specs.Parts.{Part, ArePartsPaired, IsPartsPairing, CanPartsBePaired}
-use Rattle.tree_machine.specs.Laws.PartsExactly.{paired_exactly}
+use Rattle.tree_machine.specs.Parts.{Part, ArePartsPaired, IsPartsPairing, CanPartsBePaired, IsPartBelow}
+use Rattle.tree_machine.specs.Parts.{ArePartsInRange}
+use Rattle.tree_machine.specs.Laws.PartsExactly.{paired_exactly, in_range_exactly}
 use Rattle.tree_machine.proofs.ValueParts.{zip_map, zip_unmap, parts_within, values_within, parts_at, values_at}
-use Rattle.ellen.specs.Types.{Side, UpdateWord, Node, Leaf, Record, Ins, EllenMem, Base}
-use Rattle.ellen.specs.Types.{SearchLoc, Update, Child, HelpLoc, InsChild}
-use Rattle.ellen.specs.Types.{EllenLoc, Search, Help}
+use Rattle.tree_machine.proofs.ValueParts.{from_map, all_below, all_in}
+use Rattle.ellen.specs.Types.{Side, UpdateWord, Node, Leaf, Record, Ins, EllenMem, Base, SearchLoc, Update, Child}
+use Rattle.ellen.specs.Types.{HelpLoc, InsChild, EllenLoc, Search, Help}
 use Rattle.tree_machine.specs.declared.search_order.Side.TheVariants as side
 use Rattle.ellen.specs.declared.memory.UpdateWord.TheVariants as word
 use Rattle.ellen.specs.declared.place.Base.TheVariants.{Again}
-use Rattle.ellen.specs.Pairs.{AreBoth, AreWordsPaired, AreNodesPaired, AreRecordsPaired}
-use Rattle.ellen.specs.Pairs.{AreSearchesPaired, AreHelpsPaired, ArePlacesPaired, AreMemoriesPaired, ellen_pairs}
-use Rattle.ellen.specs.Parts.{word_number, word_record, node_part, record_part}
-use Rattle.ellen.specs.Parts.{search_part, help_number, side_number, help_side, help_record, help_node, base_number}
-use Rattle.ellen.specs.Parts.{place_part, held_part, ellen_parts}
+use Rattle.ellen.specs.Pairs.{AreBoth, AreWordsPaired, AreNodesPaired, AreRecordsPaired, AreSearchesPaired}
+use Rattle.ellen.specs.Pairs.{AreHelpsPaired, ArePlacesPaired, AreMemoriesPaired, ellen_pairs}
+use Rattle.ellen.specs.Parts.{word_number, word_record, node_part, record_part, search_part, help_number, side_number}
+use Rattle.ellen.specs.Parts.{help_side, help_record, help_node, base_number, place_part, held_part, ellen_parts}
+use Rattle.std.proofs.lemmas.List.{length-map}
+use Rattle.std.proofs.lemmas.List.Elements.{All-map, All-from_recursion, recursion_from_All}
+use Rattle.ellen.specs.Range.{IsNodeIn, IsRecordIn, IsSearchIn, IsPlaceIn, IsInRange, IsPlaceInRange}
 
 module _ (P R : ℕ → ℕ → Type 0) where
   abbrev Parted : Part → Part → Type 0
@@ -161,3 +164,75 @@ parts_alike memory other held others = (
     pairing_to (IsAmong h.0.nodes) (IsAmong h.0.records) memory other held others h.1 h.2,
   )),
 )
+
+-- ---- the numbers of a value are in range exactly if those of its part are
+
+module _ (n m : ℕ) where
+  node_exactly : (node : Node) → IsNodeIn n m node ↔ IsPartBelow n m (node_part node)
+  node_exactly (Leaf k) = in_range_exactly n m _ (λ h. search) (λ h k. search)
+  node_exactly node = in_range_exactly n m _ (λ h. search) (λ h k. search)
+
+  record_exactly : (each : Record) → IsRecordIn n m each ↔ IsPartBelow n m (record_part each)
+  record_exactly (Ins i) = in_range_exactly n m _ (λ h. search) (λ h k. search)
+  record_exactly each = in_range_exactly n m _ (λ h. search) (λ h k. search)
+
+  search_exactly : (at : SearchLoc) → IsSearchIn n m at ↔ IsPartBelow n m (search_part at)
+  search_exactly (Update None p) = in_range_exactly n m _ (λ h. search) (λ h k. search)
+  search_exactly (Child None p u) = in_range_exactly n m _ (λ h. search) (λ h k. search)
+  search_exactly at = in_range_exactly n m _ (λ h. search) (λ h k. search)
+
+  place_exactly : (place : EllenLoc) → IsPlaceIn n m place ↔ IsPartBelow n m (place_part place)
+  place_exactly (Search at) = search_exactly at
+  place_exactly (Help at resume) =
+      let stack = map Some resume.stack in
+      let Below : Option ℕ → Type 0 = λ x. IfSome x (λ y. y < m) in
+      in_range_exactly n m _
+      (λ h. ((h.0.1, tt), (h.0.0, recursion_from_All Below stack (All-map Below Some resume.stack h.1))))
+      (λ h k. (
+        (k.0, h.0),
+        from_map Some (λ r. r < m) Below (λ r k. k) resume.stack (All-from_recursion Below stack k.1),
+      ))
+
+  held_exactly : (held : Option EllenLoc) → IfSome held (IsPlaceIn n m) ↔ IsPartBelow n m (held_part held)
+  held_exactly None = in_range_exactly n m _ (λ h. (tt, tt)) (λ h k. tt)
+  held_exactly (Some place) = place_exactly place
+
+-- ---- a memory and the places held
+
+-- the parts of a memory and of places in range are in range
+pub parts_in_range : (memory : EllenMem) (held : List (Option EllenLoc)) → IsInRange memory
+    → All (λ place. IfSome place (IsPlaceInRange memory)) held → ArePartsInRange 1 (ellen_parts memory held)
+parts_in_range memory held h at =
+    let n = length memory.nodes in
+    let m = length memory.records in
+    let same = length-map memory.nodes node_part in
+    let alike = length-map memory.records record_part in
+    record {
+      fixed_in_range = let root = h.root in omega arith;
+      nodes = all_below node_part (IsNodeIn n m) n m _ _ same alike (λ a. (node_exactly n m a).0) memory.nodes h.nodes;
+      records =
+          all_below record_part (IsRecordIn n m) n m _ _ same alike (λ a. (record_exactly n m a).0) memory.records
+          h.records;
+      held =
+          all_below held_part (λ place. IfSome place (IsPlaceIn n m)) n m _ _ same alike
+          (λ a. (held_exactly n m a).0) held at;
+    }
+
+-- and only those
+pub values_in_range : (memory : EllenMem) (held : List (Option EllenLoc)) → ArePartsInRange 1 (ellen_parts memory held)
+    → IsInRange memory × All (λ place. IfSome place (IsPlaceInRange memory)) held
+values_in_range memory held h =
+    let n = length memory.nodes in
+    let m = length memory.records in
+    let same = length-map memory.nodes node_part in
+    let alike = length-map memory.records record_part in (
+      record {
+        root = let root = h.fixed_in_range in omega arith;
+        nodes = all_in node_part (IsNodeIn n m) n m _ _ same alike (λ a. (node_exactly n m a).1) memory.nodes h.nodes;
+        records =
+            all_in record_part (IsRecordIn n m) n m _ _ same alike (λ a. (record_exactly n m a).1) memory.records
+            h.records;
+      },
+      all_in held_part (λ place. IfSome place (IsPlaceIn n m)) n m _ _ same alike (λ a. (held_exactly n m a).1) held
+          h.held,
+    )

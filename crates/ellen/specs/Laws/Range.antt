@@ -17,8 +17,7 @@ use Rattle.ellen.specs.Table.{act}
 use Rattle.ellen.specs.Laws.PairedAccesses.{IsWhole}
 use Rattle.ellen.specs.Laws.PairedAppends.{places_weaker}
 use Rattle.ellen.specs.Laws.PairedSteps.{act_keeps}
-use Rattle.ellen.specs.Laws.Parts.{pairing_to, pairing_from}
-use Rattle.ellen.specs.Laws.PartsRange.{parts_in_range, values_in_range}
+use Rattle.ellen.specs.Laws.Parts.{pairing_to, pairing_from, parts_in_range, values_in_range}
 
 abbrev ArePlacesIn : EllenMem → List (Option EllenLoc) → Type 0
 ArePlacesIn memory held = All (λ place. IfSome place (IsPlaceInRange memory)) held

@@ -3,8 +3,7 @@ use Rattle.std.proofs.lemmas.Option.{IfSome_then}
 use Rattle.std.proofs.lemmas.Result.{IfOk-weaker}
 use Rattle.tree_machine.specs.Flat.{graph_code}
 use Rattle.tree_machine.specs.Laws.ReadParts.{take_read}
-use Rattle.tree_machine.specs.declared.front.Front.{Front}
-use Rattle.ellen.specs.Types.{Node, Record, EllenMem}
+use Rattle.ellen.specs.Types.{Front, Node, Record, EllenMem}
 use Rattle.ellen.specs.Parts.{ellen_front_code, node_part, record_part}
 use Rattle.ellen.proofs.reading.read_front.Goals as goal
 

@@ -1,7 +1,7 @@
 use Rattle.std.proofs.Common.{map, sym, ◌∙◌}
 use Rattle.std.proofs.lemmas.List.{length-map}
 use Rattle.ellen.specs.Parts.{held_part, ellen_parts}
-use Rattle.ellen.specs.Laws.PartsRange.{parts_in_range}
+use Rattle.ellen.specs.Laws.Parts.{parts_in_range}
 use Rattle.ellen.proofs.machine.EllenEncode.write_behind.Goals as goal
 
 pub write_parts_behind-requires-clause-in_range : goal.write_parts_behind-requires-clause-in_range

@@ -1,7 +1,6 @@
-use Rattle.std.proofs.Common.{◌≡◌, ℕ, ◌<◌, List, length, map, get_or, sym, subst, OnOk}
+use Rattle.std.proofs.Common.{◌≡◌, ℕ, ◌<◌, List, length, map, get_or, sym}
 use Rattle.std.proofs.lemmas.List.{length-map}
 use Rattle.std.proofs.lemmas.Option.{slice_get-get_or}
-use Rattle.tree_machine.specs.Coding.{IsVisited}
 use Rattle.tree_machine.specs.Laws.PartsBy.{part_map_at}
 use Rattle.tree_machine.specs.Parts.{part_at}
 use Rattle.ellen.specs.Types.{Node, Leaf}
@@ -20,7 +19,5 @@ visit_node-requires c =
 
 pub returns : goal.returns
 returns c =
-    subst (λ p. OnOk c.visit_node.result
-    (IsVisited p c.args.coder.now c.args.out.now c.visit_node.new.coder c.visit_node.new.out))
-    (part_is c.args.self.now.memory.now.nodes c.as_slice.result.now c.args.index c.as_slice.ensures c.requires.in_range)
-    c.visit_node.ensures
+    rw (← (part_is c.args.self.now.memory.now.nodes c.as_slice.result.now c.args.index c.as_slice.ensures
+    c.requires.in_range)) c.visit_node.ensures
