@@ -8,6 +8,5 @@ pub mod PairedAccesses
 pub mod PairedAppends
 pub mod PairedSteps
 pub mod Parts
-pub mod PartsRange
 pub mod Range
 pub mod Rules

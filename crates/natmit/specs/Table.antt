@@ -2,11 +2,9 @@
 -- paper of Natarajan and Mittal; p and l stand for the path and the leaf.
 use Rattle.std.specs.Prelude.{ℕ, Bool, true, false, ◌&&◌, ◌||◌, if◌then◌else◌, nat_eq, Option, Some, None}
 use Rattle.sched_program.specs.Program.{key_of}
-use Rattle.natmit.specs.Types.{Op, Outcome, Side, Left, Right, NatMit, Word, Node, Leaf, Internal, NatMitMem, Mode}
-use Rattle.natmit.specs.Types.{Plain, Owner, Path, NatMitLoc, Begin, Down, Put, Flag, Look, CleanRead, Tag, Sibling}
-use Rattle.natmit.specs.Types.{Swing}
-use Rattle.sched_program.specs.declared.operation.Op.TheVariants.{Insert, Delete, Find}
-use Rattle.tree_machine.specs.declared.machine.Outcome.TheVariants.{Goes, Replies, Astray}
+use Rattle.natmit.specs.Types.{Op, Insert, Delete, Find, Outcome, Goes, Replies, Astray, Side, Left, Right, NatMit}
+use Rattle.natmit.specs.Types.{Word, Node, Leaf, Internal, NatMitMem, Mode, Plain, Owner, Path, NatMitLoc, Begin, Down}
+use Rattle.natmit.specs.Types.{Put, Flag, Look, CleanRead, Tag, Sibling, Swing}
 use Rattle.natmit.specs.Memory.{plain, is_plain, word_on, node_at, side_at, set_word, with_internal, new_internal}
 
 -- the memory after an access, and what comes of it

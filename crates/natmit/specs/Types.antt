@@ -1,6 +1,9 @@
 -- The types of memories, places and machines, and their variants, from one place. Declares nothing.
 pub use Rattle.sched_program.specs.declared.operation.Op.{Op}
+pub use Rattle.sched_program.specs.declared.operation.Op.TheVariants.{Insert, Delete, Find}
+pub use Rattle.tree_machine.specs.declared.front.Front.{Front}
 pub use Rattle.tree_machine.specs.declared.machine.Outcome.{Outcome}
+pub use Rattle.tree_machine.specs.declared.machine.Outcome.TheVariants.{Goes, Replies, Astray}
 pub use Rattle.tree_machine.specs.declared.search_order.Side.{Side}
 pub use Rattle.tree_machine.specs.declared.search_order.Side.TheVariants.{Left, Right}
 pub use Rattle.natmit.specs.declared.machine.NatMit.{NatMit}

@@ -1,8 +1,7 @@
 -- An access that goes astray leaves the memory as it was.
 use Rattle.std.specs.Prelude.{◌≡◌, Bool, true, false, if◌then◌else◌, refl, Option, Some, None}
-use Rattle.natmit.specs.Types.{Op, Outcome, NatMit, Word, NatMitMem, Mode, Plain, Owner, NatMitLoc, Begin}
-use Rattle.natmit.specs.Types.{Down, Put, Flag, Look, CleanRead, Tag, Sibling, Swing}
-use Rattle.tree_machine.specs.declared.machine.Outcome.TheVariants.{Goes, Replies, Astray}
+use Rattle.natmit.specs.Types.{Op, Outcome, Goes, Replies, Astray, NatMit, Word, NatMitMem, Mode, Plain, Owner}
+use Rattle.natmit.specs.Types.{NatMitLoc, Begin, Down, Put, Flag, Look, CleanRead, Tag, Sibling, Swing}
 use Rattle.natmit.specs.Memory.{is_plain}
 use Rattle.natmit.specs.Table.{After, found, swung, act}
 

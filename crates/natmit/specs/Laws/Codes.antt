@@ -1,6 +1,6 @@
 -- Equal parts are of equal memories and places. So codes tell what they are of, and forms are exact.
 use Rattle.std.specs.Prelude.{◌≡◌, List, Option, Some, None, refl}
-use Rattle.std.proofs.Common.{ap}
+use Rattle.std.proofs.Common.{ap, arith}
 use Rattle.std.proofs.lemmas.List.{length-map}
 use Rattle.tree_machine.specs.Pairing.{AreHeldPaired}
 use Rattle.tree_machine.specs.FormCode.{TellsWholly, cut_code}
@@ -8,15 +8,13 @@ use Rattle.tree_machine.specs.Flat.{all_front}
 use Rattle.tree_machine.specs.Laws.PartForms.{parts_tell_wholly, part_forms_exact, parts_decode}
 use Rattle.tree_machine.specs.Rules.{AreFormsExact, DecodesForms}
 use Rattle.tree_machine.proofs.ValueParts.{Same, values_equal}
-use Rattle.tree_machine.specs.declared.front.Front.{Front}
-use Rattle.natmit.specs.Types.{NatMit, Word, Node, Leaf, Internal, NatMitMem, Mode, Plain, Owner, Path, NatMitLoc}
-use Rattle.natmit.specs.Types.{Begin, Down, Put, Flag, Look, CleanRead, Tag, Sibling, Swing}
+use Rattle.natmit.specs.Types.{Front, NatMit, Word, Node, Leaf, Internal, NatMitMem, Mode, Plain, Path}
+use Rattle.natmit.specs.Types.{NatMitLoc, Begin, Down, Put, Flag, Look, CleanRead, Tag, Sibling, Swing}
 use Rattle.natmit.specs.Pairs.{AreWordsPaired, AreNodesPaired, AreModesPaired, ArePathsPaired, ArePlacesPaired}
-use Rattle.natmit.specs.Parts.{node_part, held_part, natmit_parts, natmit_code, natmit_form}
-use Rattle.natmit.specs.Parts.{natmit_front_code, natmit_behind_code}
+use Rattle.natmit.specs.Parts.{node_part, held_part, natmit_parts, natmit_code, natmit_form, natmit_front_code}
+use Rattle.natmit.specs.Parts.{natmit_behind_code}
 use Rattle.natmit.specs.NatMitRules.{natmit_rules}
-use Rattle.natmit.specs.Laws.Parts.{node_parts, held_parts, parts_exactly}
-use Rattle.natmit.specs.Laws.PartsRange.{parts_in_range, values_in_range}
+use Rattle.natmit.specs.Laws.Parts.{node_parts, held_parts, parts_exactly, parts_in_range, values_in_range}
 
 -- ---- what equality pairs is equal
 
@@ -33,8 +31,7 @@ nodes_equal _ _ h = absurd h
 
 modes_equal : (m o : Mode) → AreModesPaired Same m o → m ≡ o
 modes_equal Plain Plain h = refl
-modes_equal (Owner x) (Owner y) h = ap Owner h
-modes_equal _ _ h = absurd h
+modes_equal m o h = search arith
 
 paths_equal : (p q : Path) → ArePathsPaired Same p q → p ≡ q
 paths_equal p q h = λ i. record { ancestor = h.0 i; successor = h.1 i; parent = h.2 i }

@@ -2,7 +2,7 @@
 use Rattle.std.specs.Prelude.{◌≡◌, ℕ, not, ◌&&◌, nat_eq, refl, Option, Some, None, unwrap_or}
 use Rattle.std.proofs.Common.{ap, arith, subst}
 use Rattle.std.proofs.lemmas.List.{length-set}
-use Rattle.natmit.specs.Types.{Outcome, Side, Left, Word, Node, Leaf, NatMitMem, NatMitLoc}
+use Rattle.natmit.specs.Types.{Outcome, Astray, Side, Left, Word, Node, Leaf, NatMitMem, NatMitLoc}
 use Rattle.tree_machine.specs.SearchOrder.{side_of}
 use Rattle.tree_machine.specs.Pairing.{Pairing, Extends, IsAmong, IsOneToOne, AreHeldPaired, AreOutcomesPaired}
 use Rattle.tree_machine.specs.Pairing.{AreStepsPaired}
@@ -10,7 +10,6 @@ use Rattle.tree_machine.proofs.FreshPairs.{choices_paired, same_number, within_s
 use Rattle.tree_machine.specs.Laws.PairedRange.{IsCovered}
 use Rattle.natmit.specs.Memory.{is_plain, key_in, word_on, with_word, node_at, side_at, set_word}
 use Rattle.natmit.specs.Pairs.{AreWordsPaired, AreNodesPaired, AreMemoriesPaired, ArePlacesPaired, natmit_pairs}
-use Rattle.tree_machine.specs.declared.machine.Outcome.TheVariants.{Astray}
 use Rattle.natmit.specs.Table.{After, found, after_read, after_exchange, after_tag}
 
 -- ---- what is read of paired nodes

@@ -34,8 +34,7 @@ module _ (P : ℕ → ℕ → Type 0) where
       → ArePathsPaired P (path_below p l t) (path_below q k v)
   below_paired p q l k true true h hl e = (h.0, h.1, hl)
   below_paired p q l k false false h hl e = (h.2, hl, hl)
-  below_paired p q l k true false h hl e = cc
-  below_paired p q l k false true h hl e = cc
+  below_paired p q l k _ _ h hl e = cc
 
   module _ (one : IsOneToOne P) where
     arrived_paired : (op : Op) (p q : Path) (l k : ℕ) (t v : Bool) (m o : Mode) (node node_twin : Node)

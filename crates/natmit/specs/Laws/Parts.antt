@@ -1,26 +1,27 @@
--- Parts are paired exactly if the nodes and what the threads hold are.
-use Rattle.std.specs.Prelude.{◌≡◌, ℕ, zero, suc, ◌+◌, ◌*◌, ◌<◌, ◌↔◌, Bool, true, false, List, [], length, refl}
-use Rattle.std.specs.Prelude.{Option, Some, None}
+-- Parts are paired, and in range, exactly where what they are of is.
+use Rattle.std.specs.Prelude.{◌≡◌, ℕ, zero, suc, ◌+◌, ◌*◌, ◌<◌, ◌↔◌, Bool, true, false, List, [], length, refl, Option}
+use Rattle.std.specs.Prelude.{Some, None, map, IfSome, All}
 use Rattle.std.specs.List.{AllZip}
 use Rattle.std.proofs.Common.{arith, sym}
-use Rattle.natmit.specs.Types.{Side, Left, Word, Node, Leaf, Internal, NatMitMem, Plain}
-use Rattle.natmit.specs.Types.{NatMitLoc, Begin, Down, CleanRead, Tag, Sibling, Swing}
+use Rattle.natmit.specs.Types.{Side, Left, Word, Node, Leaf, Internal, NatMitMem, NatMitLoc, Begin}
 use Rattle.tree_machine.specs.Pairing.{IsAmong, AreHeldPaired, AreAlike}
-use Rattle.tree_machine.specs.Parts.{Parts, ArePartsPaired, IsPartsPairing, CanPartsBePaired}
-use Rattle.tree_machine.specs.Laws.PartsExactly.{paired_exactly}
+use Rattle.tree_machine.specs.Parts.{Parts, ArePartsPaired, IsPartsPairing, CanPartsBePaired, IsPartBelow}
+use Rattle.tree_machine.specs.Parts.{ArePartsInRange}
+use Rattle.tree_machine.specs.Laws.PartsExactly.{paired_exactly, in_range_exactly}
 use Rattle.tree_machine.proofs.ValueParts.{zip_map, zip_unmap, parts_within, values_within, parts_at, values_at}
-use Rattle.natmit.specs.Pairs.{AreNodesPaired, ArePlacesPaired, AreMemoriesPaired}
-use Rattle.natmit.specs.Pairs.{natmit_pairs}
-use Rattle.natmit.specs.Parts.{bit, mark_number, side_number, node_part, place_part}
-use Rattle.natmit.specs.Parts.{held_part, natmit_parts}
+use Rattle.tree_machine.proofs.ValueParts.{all_below, all_in}
+use Rattle.natmit.specs.Pairs.{AreNodesPaired, ArePlacesPaired, AreMemoriesPaired, natmit_pairs}
+use Rattle.natmit.specs.Parts.{bit, mark_number, side_number, node_part, place_part, held_part, natmit_parts}
 use Rattle.natmit.specs.Laws.PairedAccesses.{AreFoundPaired}
+use Rattle.std.proofs.lemmas.List.{length-map}
+use Rattle.std.proofs.lemmas.List.Elements.{All-nil}
+use Rattle.natmit.specs.Range.{IsNodeIn, IsPlaceIn, IsInRange, IsPlaceInRange}
 
 -- ---- facts determine what they are of
 
 bit_tells : (a b : Bool) → bit a ≡ bit b → a ≡ b
 bit_tells false false e = refl
-bit_tells true true e = refl
-bit_tells _ _ e = absurd (omega arith)
+bit_tells a b e = search arith
 
 bit_small : (b : Bool) → bit b < 2
 bit_small false = omega arith
@@ -58,16 +59,7 @@ module _ (P R : ℕ → ℕ → Type 0) where
   -- places are paired exactly if their parts are
   pub place_parts : (place twin : NatMitLoc)
       → ArePlacesPaired P place twin ↔ ArePartsPaired P R (place_part place) (place_part twin)
-  place_parts (Begin Plain) (Begin Plain) = paired_exactly P R _ _ (λ h. search tells) (λ f n r. search tells)
-  place_parts (Down p l t Plain) (Down q k v Plain) =
-      paired_exactly P R _ _ (λ h. search tells) (λ f n r. search tells)
-  place_parts (CleanRead p Plain) (CleanRead q Plain) =
-      paired_exactly P R _ _ (λ h. search tells) (λ f n r. search tells)
-  place_parts (Tag p d Plain) (Tag q e Plain) = paired_exactly P R _ _ (λ h. search tells) (λ f n r. search tells)
-  place_parts (Sibling p d Plain) (Sibling q e Plain) =
-      paired_exactly P R _ _ (λ h. search tells) (λ f n r. search tells)
-  place_parts (Swing a s f x Plain) (Swing b u g y Plain) =
-      paired_exactly P R _ _ (λ h. search tells) (λ f n r. search tells)
+  place_parts (Begin m) (Begin o) = paired_exactly P R _ _ (λ h. search tells) (λ f n r. search tells)
   place_parts place twin = paired_exactly P R _ _ (λ h. search tells) (λ f n r. search tells)
 
   -- no place has the part of a thread that holds none
@@ -141,3 +133,52 @@ module _ (memory other : NatMitMem) (held others : List (Option NatMitLoc)) wher
     (λ h. let t = pairing_from (IsAmong h.0) (IsAmong h.1) h.2 in (record { nodes = h.0; records = h.1 }, t.0, t.1)),
     (λ h. (h.0.nodes, [], pairing_to (IsAmong h.0.nodes) h.1 h.2)),
   )
+
+-- ---- the numbers of a value are in range exactly if those of its part are
+
+module _ (n r : ℕ) where
+  node_exactly : (node : Node) → IsNodeIn n node ↔ IsPartBelow n r (node_part node)
+  node_exactly (Leaf k) = in_range_exactly n r _ (λ h. search) (λ h k. search)
+  node_exactly node = in_range_exactly n r _ (λ h. search) (λ h k. search)
+
+  place_exactly : (place : NatMitLoc) → IsPlaceIn n place ↔ IsPartBelow n r (place_part place)
+  place_exactly (Begin m) = in_range_exactly n r _ (λ h. search arith) (λ h k. search arith)
+  place_exactly place = in_range_exactly n r _ (λ h. search arith) (λ h k. search arith)
+
+  held_exactly : (place : Option NatMitLoc) → IfSome place (IsPlaceIn n) ↔ IsPartBelow n r (held_part place)
+  held_exactly None = in_range_exactly n r _ (λ h. (tt, tt)) (λ h k. tt)
+  held_exactly (Some place) = place_exactly place
+
+-- ---- a memory and the places held
+
+-- the parts of a memory and of places in range are in range
+pub parts_in_range : (memory : NatMitMem) (held : List (Option NatMitLoc)) → IsInRange memory
+    → All (λ place. IfSome place (IsPlaceInRange memory)) held → ArePartsInRange 2 (natmit_parts memory held)
+parts_in_range memory held h places =
+    let n = length memory.nodes in
+    let same = length-map memory.nodes node_part in
+    let first = h.first_nodes in
+    record {
+      fixed_in_range = omega arith;
+      nodes = all_below node_part (IsNodeIn n) n 0 _ _ same refl (λ a. (node_exactly n 0 a).0) memory.nodes h.nodes;
+      records = All-nil (IsPartBelow (length (map node_part memory.nodes)) 0);
+      held =
+          all_below held_part (λ place. IfSome place (IsPlaceIn n)) n 0 _ _ same refl (λ a. (held_exactly n 0 a).0)
+          held places;
+    }
+
+-- and only those
+pub values_in_range : (memory : NatMitMem) (held : List (Option NatMitLoc))
+    → ArePartsInRange 2 (natmit_parts memory held) → IsInRange memory
+    × All (λ place. IfSome place (IsPlaceInRange memory)) held
+values_in_range memory held h =
+    let n = length memory.nodes in
+    let same = length-map memory.nodes node_part in
+    let first = h.fixed_in_range in (
+      record {
+        first_nodes = omega arith;
+        nodes = all_in node_part (IsNodeIn n) n 0 _ _ same refl (λ a. (node_exactly n 0 a).1) memory.nodes h.nodes;
+      },
+      all_in held_part (λ place. IfSome place (IsPlaceIn n)) n 0 _ _ same refl (λ a. (held_exactly n 0 a).1) held
+          h.held,
+    )

@@ -18,8 +18,7 @@ use Rattle.natmit.specs.Table.{act}
 use Rattle.natmit.specs.Laws.PairedAccesses.{IsWhole}
 use Rattle.natmit.specs.Laws.PairedAppends.{places_extend}
 use Rattle.natmit.specs.Laws.PairedSteps.{act_keeps}
-use Rattle.natmit.specs.Laws.Parts.{pairing_to, pairing_from}
-use Rattle.natmit.specs.Laws.PartsRange.{parts_in_range, values_in_range}
+use Rattle.natmit.specs.Laws.Parts.{pairing_to, pairing_from, parts_in_range, values_in_range}
 
 abbrev ArePlacesIn : NatMitMem → List (Option NatMitLoc) → Type 0
 ArePlacesIn memory held = All (λ place. IfSome place (IsPlaceInRange memory)) held

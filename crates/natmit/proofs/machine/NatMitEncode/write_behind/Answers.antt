@@ -1,7 +1,7 @@
 use Rattle.std.proofs.Common.{map, sym, ◌∙◌}
 use Rattle.std.proofs.lemmas.List.{length-map}
 use Rattle.natmit.specs.Parts.{held_part, natmit_parts}
-use Rattle.natmit.specs.Laws.PartsRange.{parts_in_range}
+use Rattle.natmit.specs.Laws.Parts.{parts_in_range}
 use Rattle.natmit.proofs.machine.NatMitEncode.write_behind.Goals as goal
 
 pub write_parts_behind-requires-clause-in_range : goal.write_parts_behind-requires-clause-in_range
