@@ -1,6 +1,5 @@
 -- What was appended is found again.
-use Rattle.std.proofs.Common.{◌≡◌, ℕ, suc, ◌+◌, true, false, List, [], ◌∷◌, ◌++◌, length, refl}
-use Rattle.std.proofs.Common.{arith}
+use Rattle.std.proofs.Common.{◌≡◌, ℕ, suc, ◌+◌, true, false, List, [], ◌∷◌, ◌++◌, length, refl, arith}
 use Rattle.std.specs.Prelude.{Some, slice_get, nat_lt}
 use Rattle.ellen.specs.Types.{EllenMem}
 use Rattle.ellen.specs.Memory.{key_at, internal_over, with_internal, new_internal}

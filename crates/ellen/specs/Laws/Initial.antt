@@ -17,9 +17,8 @@ use Rattle.tree_machine.specs.Laws.InitialKeys.{IsPutIn, stays_ordered}
 use Rattle.ellen.specs.Memory.{shape_in, shapes, key_in, key_at, with_child, internal_over, with_internal}
 use Rattle.ellen.specs.Initial.{empty_tree, put_in, initial_memory}
 use Rattle.ellen.specs.Range.{IsNodeIn, IsInRange, IsPlaceInRange}
-use Rattle.ellen.specs.Laws.PairedAccesses.{behind, with_pairs, with_children_paired, replace_node}
+use Rattle.ellen.specs.Laws.PairedAccesses.{seen, behind, with_pairs, with_children_paired, replace_node}
 use Rattle.ellen.specs.Laws.PairedAppends.{fresh_nodes, append_internal, internal_whole}
-use Rattle.ellen.specs.Laws.Pairs.{seen}
 use Rattle.ellen.specs.Laws.Range.{self_paired, whole_in_range}
 
 -- ---- numbers in range

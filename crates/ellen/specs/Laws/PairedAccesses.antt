@@ -4,15 +4,17 @@ use Rattle.std.proofs.Common.{◌∙◌, ap, arith, subst, sym, inr}
 use Rattle.std.proofs.lemmas.List.{length-set}
 use Rattle.tree_machine.specs.Cells.{IsPairedOrNone}
 use Rattle.tree_machine.specs.Pairing.{IsAmong, IsOneToOne, Pairing, Extends, AreOutcomesPaired, AreStepsPaired}
-use Rattle.tree_machine.proofs.FreshPairs.{choices_paired, same_number, within_set, paired_set}
+use Rattle.std.specs.Option.{option_map}
+use Rattle.tree_machine.specs.Laws.SearchOrderPairs.{AreShapesPaired}
+use Rattle.tree_machine.proofs.FreshPairs.{paired_as, choices_paired, same_number, within_set, paired_set}
 use Rattle.tree_machine.specs.Laws.PairedRange.{IsCovered}
 use Rattle.tree_machine.specs.SearchOrder.{side_of}
 use Rattle.ellen.specs.Types.{Outcome, Astray, Side, UpdateWord, Node, Leaf, InsertRecord, DeleteRecord, Record, Ins}
 use Rattle.ellen.specs.Types.{Del, EllenMem, EllenLoc}
 use Rattle.tree_machine.specs.declared.search_order.Side.TheVariants as side
 use Rattle.ellen.specs.declared.memory.UpdateWord.TheVariants as word
-use Rattle.ellen.specs.Memory.{key_in, update_of, child_on, with_update, with_child, is_word, node_at, key_at, set_node}
-use Rattle.ellen.specs.Memory.{insert_of, delete_of}
+use Rattle.ellen.specs.Memory.{shape_in, shapes, key_in, update_of, child_on, with_update, with_child, is_word, node_at, key_at, set_node}
+use Rattle.ellen.specs.Memory.{shape_in, shapes, insert_of, delete_of}
 use Rattle.ellen.specs.Table.{After, found, read_update, read_child, exchange_update, exchange_child}
 use Rattle.ellen.specs.Pairs.{AreBoth, AreWordsPaired, AreNodesPaired, AreRecordsPaired, AreMemoriesPaired, ellen_pairs}
 use Rattle.ellen.specs.Parts.{word_number, word_record}
@@ -79,6 +81,17 @@ module _ (P R : ℕ → ℕ → Type 0) where
       → AreNodesPaired P R (with_child c x a) (with_child d y b)
   with_children_paired c d x y a b e p h =
       subst (λ s. AreNodesPaired P R (with_child c x a) (with_child s y b)) e (with_child_paired c x y a b p h)
+
+  shapes_paired : (a b : Node) → AreNodesPaired P R a b → AreShapesPaired P (Some (shape_in a)) (Some (shape_in b))
+  shapes_paired (Leaf k) (Leaf j) h = h
+  shapes_paired a b h = search arith
+
+  -- paired nodes are seen alike
+  pub seen : (memory other : EllenMem) → AreMemoriesPaired P R memory other → (x y : ℕ) → P x y
+      → AreShapesPaired P (shapes memory x) (shapes other y)
+  seen memory other h x y p =
+      paired_as (AreFoundPaired P R) (λ a b. AreShapesPaired P (option_map shape_in a) (option_map shape_in b))
+      memory.nodes other.nodes x y (h.nodes_in_range x y p) shapes_paired (h.nodes x y p)
 
 -- ---- a node is replaced on both sides
 

@@ -1,8 +1,8 @@
 -- As many nodes and records are appended as were counted.
-use Rattle.std.proofs.Common.{◌≡◌, ℕ, ◌<◌, List, ◌∷◌, ◌++◌, length, map, sym, ap, ◌∙◌, append_assoc, arith}
+use Rattle.std.proofs.Common.{◌≡◌, ℕ, ◌<◌, List, ◌∷◌, ◌++◌, length, map, sym, ◌∙◌, append_assoc, arith}
 use Rattle.std.proofs.lemmas.Grind.{flat_map-append}
 use Rattle.std.proofs.lemmas.List.{length-map, map-append}
-use Rattle.tree_machine.specs.Flat.{cell_code, flat, graph_code, number_code, part_codes, part_content}
+use Rattle.tree_machine.specs.Flat.{graph_code, part_codes}
 use Rattle.tree_machine.specs.Laws.FirstBytes.{first_two}
 use Rattle.tree_machine.specs.Laws.SmallCodes.{small_code}
 use Rattle.tree_machine.specs.Parts.{Part}
@@ -13,15 +13,8 @@ graph_read : (nodes records : List Part) (bytes behind rest : List ℕ) (count m
     → length nodes ≡ count → length records ≡ many → bytes ≡ part_codes nodes ++ behind
     → behind ≡ part_codes records ++ rest → count ∷ many ∷ bytes ≡ graph_code nodes records ++ rest
 graph_read nodes records bytes behind rest count many bounded less n m b r =
-    let one = ap number_code n ∙ small_code count bounded in
-    let two = ap number_code m ∙ small_code many less in
-    let both =
-    ap flat (map-append part_content nodes records)
-    ∙ flat_map-append cell_code (map part_content nodes) (map part_content records) in
-    let all : bytes ≡ part_codes (nodes ++ records) ++ rest =
-    b ∙ (ap (λ l. part_codes nodes ++ l) r
-    ∙ (sym (append_assoc (part_codes nodes) (part_codes records) rest) ∙ ap (λ l. l ++ rest) (sym both))) in
-    ap (λ l. count ∷ many ∷ l) all ∙ sym (λ i. (one i ++ (two i ++ part_codes (nodes ++ records))) ++ rest)
+    rw (b, r, n, m, small_code count bounded, small_code many less)
+    (simp (map-append, flat_map-append, append_assoc))
 
 pub returns-in-Some-2 : goal.returns-in-Some-2
 returns-in-Some-2 c =
