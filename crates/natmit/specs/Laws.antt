@@ -3,7 +3,6 @@ pub mod Astray
 pub mod Codes
 pub mod Exact
 pub mod Initial
-pub mod Pairs
 pub mod PairedAccesses
 pub mod PairedAppends
 pub mod PairedSteps

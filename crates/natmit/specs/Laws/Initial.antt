@@ -17,9 +17,8 @@ use Rattle.natmit.specs.Memory.{plain, key_in, shape_in, shapes, with_word, key_
 use Rattle.natmit.specs.Memory.{with_internal, new_internal}
 use Rattle.natmit.specs.Initial.{empty_tree, put_in, initial_memory}
 use Rattle.natmit.specs.Range.{IsNodeIn, IsInRange, IsPlaceInRange}
-use Rattle.natmit.specs.Laws.PairedAccesses.{set_word_paired}
+use Rattle.natmit.specs.Laws.PairedAccesses.{seen, set_word_paired}
 use Rattle.natmit.specs.Laws.PairedAppends.{with_two_new, internals_paired, two_new}
-use Rattle.natmit.specs.Laws.Pairs.{seen}
 use Rattle.natmit.specs.Laws.Range.{self_paired, whole_in_range}
 
 -- ---- search order
@@ -92,7 +91,7 @@ put_in_range memory k h =
     let p = self.0 in
     let root = self.2.root_paired in
     let ends =
-    ends_paired (IsAmong p.nodes) (shapes memory) (shapes memory) (seen p memory memory self.2) k n 0 0 0 0 root root in
+    ends_paired (IsAmong p.nodes) (shapes memory) (shapes memory) (seen (IsAmong p.nodes) memory memory self.2) k n 0 0 0 0 root root in
     let q = with_two_new p memory memory k in
     let more = two_new p memory memory self.2 k end.leaf end.leaf ends.1 in
     let grown = with_internal memory k end.leaf in

@@ -6,9 +6,11 @@ use Rattle.natmit.specs.Types.{Outcome, Astray, Side, Left, Word, Node, Leaf, Na
 use Rattle.tree_machine.specs.SearchOrder.{side_of}
 use Rattle.tree_machine.specs.Pairing.{Pairing, Extends, IsAmong, IsOneToOne, AreHeldPaired, AreOutcomesPaired}
 use Rattle.tree_machine.specs.Pairing.{AreStepsPaired}
-use Rattle.tree_machine.proofs.FreshPairs.{choices_paired, same_number, within_set, paired_set}
+use Rattle.std.specs.Option.{option_map}
+use Rattle.tree_machine.specs.Laws.SearchOrderPairs.{AreShapesPaired}
+use Rattle.tree_machine.proofs.FreshPairs.{paired_as, choices_paired, same_number, within_set, paired_set}
 use Rattle.tree_machine.specs.Laws.PairedRange.{IsCovered}
-use Rattle.natmit.specs.Memory.{is_plain, key_in, word_on, with_word, node_at, side_at, set_word}
+use Rattle.natmit.specs.Memory.{shape_in, shapes, is_plain, key_in, word_on, with_word, node_at, side_at, set_word}
 use Rattle.natmit.specs.Pairs.{AreWordsPaired, AreNodesPaired, AreMemoriesPaired, ArePlacesPaired, natmit_pairs}
 use Rattle.natmit.specs.Table.{After, found, after_read, after_exchange, after_tag}
 
@@ -54,6 +56,16 @@ module _ (P : ℕ → ℕ → Type 0) (memory twin : NatMitMem) (h : AreMemories
   pub reads_paired : (x y : ℕ) (d e : Side) → P x y → d ≡ e
       → AreReadsPaired P (word_on d (node_at memory x)) (word_on e (node_at twin y))
   reads_paired x y d e p same = rw (← same) (word_paired P d _ _ (h.nodes_paired x y p))
+
+  shapes_paired : (a b : Node) → AreNodesPaired P a b → AreShapesPaired P (Some (shape_in a)) (Some (shape_in b))
+  shapes_paired (Leaf k) (Leaf j) g = g
+  shapes_paired a b g = search arith
+
+  -- paired nodes are seen alike
+  pub seen : (x y : ℕ) → P x y → AreShapesPaired P (shapes memory x) (shapes twin y)
+  seen x y at =
+      paired_as (AreFoundPaired P) (λ a b. AreShapesPaired P (option_map shape_in a) (option_map shape_in b))
+      memory.nodes twin.nodes x y (h.in_range x y at) shapes_paired (h.nodes_paired x y at)
 
   -- paired nodes get paired words
   pub set_word_paired : (x y : ℕ) (d e : Side) (v w : Word) → P x y → d ≡ e → AreWordsPaired P v w
