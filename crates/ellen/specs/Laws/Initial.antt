@@ -18,7 +18,7 @@ use Rattle.ellen.specs.Memory.{shape_in, shapes, key_in, key_at, with_child, int
 use Rattle.ellen.specs.Initial.{empty_tree, put_in, initial_memory}
 use Rattle.ellen.specs.Range.{IsNodeIn, IsInRange, IsPlaceInRange}
 use Rattle.ellen.specs.Laws.PairedAccesses.{seen, behind, with_pairs, with_children_paired, replace_node}
-use Rattle.ellen.specs.Laws.PairedAppends.{fresh_nodes, append_internal, internal_whole}
+use Rattle.ellen.specs.Laws.PairedAppends.{fresh_nodes, internal_grown}
 use Rattle.ellen.specs.Laws.Range.{self_paired, whole_in_range}
 
 -- ---- numbers in range
@@ -36,14 +36,14 @@ put_in_range memory k h =
     ends_paired P (shapes memory) (shapes memory) (seen P R memory memory self.2) k n 0 0 0 0 root root in
     let fresh = fresh_nodes memory memory in
     let Q = IsAmong (fresh ++ p.nodes) in
-    let more = append_internal p memory memory k end.leaf end.leaf self.2 ends.1 in
+    let more = internal_grown p memory memory k end.leaf end.leaf self.2 ends.1 in
     let grown = with_internal memory k end.leaf in
     let side = side_of k (key_at memory end.parent) in
     let parent = behind fresh p.nodes end.parent end.parent ends.0 in
-    let put = with_children_paired Q R side side _ _ _ _ refl (inl (refl, refl)) (more.nodes _ _ parent) in
+    let put = with_children_paired Q R side side _ _ _ _ refl (inl (refl, refl)) (more.paired.nodes _ _ parent) in
     (whole_in_range (with_pairs fresh [] p) (put_in memory k) (put_in memory k) [] []
-    (rw length-set (internal_whole p memory memory k end.leaf end.leaf self.2 ends.1 self.1.0), self.1.1)
-    (replace_node Q R grown grown end.parent end.parent _ _ more parent put) tt).0
+    (rw length-set (more.whole self.1.0), self.1.1)
+    (replace_node Q R grown grown end.parent end.parent _ _ more.paired parent put) tt).0
 
 fold_in_range : (keys : List ℕ) (memory : EllenMem) → IsInRange memory → IsInRange (fold put_in memory keys)
 fold_in_range [] memory h = h

@@ -14,7 +14,7 @@ use Rattle.tree_machine.specs.SearchOrder.{side_of}
 use Rattle.tree_machine.specs.declared.search_order.Side.TheVariants as side
 use Rattle.ellen.specs.declared.memory.UpdateWord.TheVariants as word
 use Rattle.ellen.specs.declared.place.Base.TheVariants as base
-use Rattle.ellen.specs.Memory.{is_word, is_clean, with_internal, new_internal}
+use Rattle.ellen.specs.Memory.{is_word, is_clean, new_internal}
 use Rattle.ellen.specs.Table.{with_base, settled, top_taken, unwound, returned, marking, help, help_first}
 use Rattle.ellen.specs.Table.{flagging, decide, arrived, search_act, unflagged, help_act, act}
 use Rattle.ellen.specs.Pairs.{AreBoth, AreWordsPaired, AreNodesPaired, AreAbovesPaired, AreSearchesPaired}
@@ -23,7 +23,7 @@ use Rattle.tree_machine.proofs.FreshPairs.{choices_paired, same_number}
 use Rattle.ellen.specs.Laws.PairedAccesses.{words_compared, key_paired, with_pairs, read_update_keeps}
 use Rattle.ellen.specs.Laws.PairedAccesses.{read_child_keeps, exchange_update_keeps, exchange_child_keeps}
 use Rattle.ellen.specs.Laws.PairedAccesses.{insert_keeps, delete_keeps, Steps}
-use Rattle.ellen.specs.Laws.PairedAppends.{records_weaker, append_record, append_internal, fresh_nodes, internal_whole}
+use Rattle.ellen.specs.Laws.PairedAppends.{records_weaker, append_record, fresh_nodes, internal_grown}
 
 -- ---- where operations go, from paired places
 
@@ -140,22 +140,18 @@ module _ (machine : Ellen) (op : Op) (p : Pairing) (m o : EllenMem) (h : ellen_p
       (λ c d w. arrived_paired p h.root machine op a b _ _ c d _ _ g.0 (g.1, g.2) w (h.nodes c d w))
   -- the exchange of an insert's flag: three nodes and a record are new
   search_keeps (IFlag x u l) (IFlag y v n) g =
+      let grown = internal_grown p m o (key_of op) l n h g.2 in
+      let left : Record = Ins (record { parent = x; leaf = l; new = new_internal m }) in
+      let right : Record = Ins (record { parent = y; leaf = n; new = new_internal o }) in
       exchange_update_keeps p m o h (fresh_nodes m o) fresh_record _ _
-      (append_record (fresh_nodes m o ++ p.nodes) p.records (with_internal m (key_of op) l)
-      (with_internal o (key_of op) n)
-      (Ins (record { parent = x; leaf = l; new = new_internal m }))
-      (Ins (record { parent = y; leaf = n; new = new_internal o }))
-      (append_internal p m o (key_of op) l n h g.2) (inr (inr (inr g.0)), inr (inr (inr g.2)), inl (refl, refl)))
-      (λ w. (
-        internal_whole p m o (key_of op) l n h g.2 w.0,
-        fresh_covers p.records m.records (Ins (record { parent = x; leaf = l; new = new_internal m }))
-            (length o.records) w.1,
-      ))
+      (append_record (fresh_nodes m o ++ p.nodes) p.records _ _ left right grown.paired
+      (inr (inr (inr g.0)), inr (inr (inr g.2)), inl (refl, refl)))
+      (λ w. (grown.whole w.0, fresh_covers p.records m.records left (length o.records) w.1))
       x y u v _ _ _ _ _ _ g.0 g.1 (inl (refl, refl)) (inl (refl, refl), (tt, refl))
       (help_first_paired p h.root machine)
   search_keeps (InsOnly x l) (InsOnly y n) g =
-      exchange_child_keeps p m o h (fresh_nodes m o) [] _ _ (append_internal p m o (key_of op) l n h g.1)
-      (λ w. (internal_whole p m o (key_of op) l n h g.1 w.0, w.1))
+      let grown = internal_grown p m o (key_of op) l n h g.1 in
+      exchange_child_keeps p m o h (fresh_nodes m o) [] _ _ grown.paired (λ w. (grown.whole w.0, w.1))
       x y l n (new_internal m) (new_internal o) _ _ _ _ g.0 g.1 (inl (refl, refl)) refl (tt, h.root)
   -- the exchange of a delete's flag: a record is new, which the grandparent's update word names
   search_keeps (DFlag a x u l) (DFlag b y v n) g =
