@@ -6,8 +6,7 @@ use Rattle.tree_machine.specs.Laws.PartsExactly.{parts_weaker}
 use Rattle.tree_machine.specs.Laws.PairedRange.{IsCovered, fresh_covers}
 use Rattle.tree_machine.specs.Pairing.{IsAmong, Pairing}
 use Rattle.tree_machine.proofs.FreshPairs.{choices_paired, fresh_one, fresh_within, fresh_paired}
-use Rattle.ellen.specs.declared.memory.UpdateWord.TheVariants as word
-use Rattle.ellen.specs.Types.{Node, Leaf, Internal, Record, EllenMem, EllenLoc}
+use Rattle.ellen.specs.Types.{Node, Leaf, Record, EllenMem, EllenLoc}
 use Rattle.ellen.specs.Memory.{node_at, key_at, internal_over, with_internal, add_record}
 use Rattle.ellen.specs.Pairs.{AreBoth, AreNodesPaired, AreRecordsPaired, ArePlacesPaired, AreMemoriesPaired}
 use Rattle.ellen.specs.Pairs.{ellen_pairs}
@@ -65,9 +64,8 @@ add_node m a = record { nodes = m.nodes ++ a ∷ []; records = m.records }
 internal_paired : (P R : ℕ → ℕ → Type 0) (k j i x y v w : ℕ) → j ≡ i → P x v → P y w
     → AreNodesPaired P R (internal_over k j x y) (internal_over k i v w)
 internal_paired P R k j i x y v w e p q =
-    choices_paired (AreNodesPaired P R) (nat_lt k j) (nat_lt k i) (Internal j word.Untouched x y)
-    (Internal k word.Untouched y x) (Internal i word.Untouched v w) (Internal k word.Untouched w v) (ap (nat_lt k) e)
-    (e, tt, p, q) (refl, tt, q, p)
+    choices_paired (AreNodesPaired P R) (nat_lt k j) (nat_lt k i) _ _ _ _ (ap (nat_lt k) e) (e, tt, p, q)
+    (refl, tt, q, p)
 
 -- the fresh pairs of a new internal node, its own first
 abbrev pub fresh_nodes : EllenMem → EllenMem → List (ℕ × ℕ)

@@ -68,7 +68,7 @@ module _ (p : Pairing) (root : IsAmong p.nodes 0 0) where
 
   marking_paired : (machine : Ellen) (r s : ℕ) → R r s → AreHelpsPaired P R (marking machine r) (marking machine s)
   marking_paired machine r s h =
-      choices_paired (AreHelpsPaired P R) machine.mark machine.mark (Mark r) (Right r) (Mark s) (Right s) refl h h
+      choices_paired (AreHelpsPaired P R) machine.mark machine.mark _ _ _ _ refl h h
 
   help_paired : (machine : Ellen) (u v : UpdateWord) (y z : Resume) → AreWordsPaired R u v → AreResumesPaired P R y z
       → Outcomes (help machine u y) (help machine v z)
@@ -90,8 +90,7 @@ module _ (p : Pairing) (root : IsAmong p.nodes 0 0) where
   flagging_paired : (machine : Ellen) (x y : Above) (l n : ℕ) → AreAbovesPaired P R x y → P l n
       → AreSearchesPaired P R (flagging machine x l) (flagging machine y n)
   flagging_paired machine x y l n h k =
-      choices_paired (AreSearchesPaired P R) machine.iflag machine.iflag (IFlag x.node x.update l) (InsOnly x.node l)
-      (IFlag y.node y.update n) (InsOnly y.node n) refl (h.0, h.1, k) (h.0, k)
+      choices_paired (AreSearchesPaired P R) machine.iflag machine.iflag _ _ _ _ refl (h.0, h.1, k) (h.0, k)
 
   decide_paired : (machine : Ellen) (op : Op) (a b : Option Above) (x y : Above) (l n j i : ℕ)
       → AreBoth (AreAbovesPaired P R) a b → AreAbovesPaired P R x y → P l n → j ≡ i →

@@ -1,4 +1,4 @@
-use Rattle.std.proofs.Common.{◌≡◌, List, ◌++◌, length, map, take, sym, ◌∙◌, ap}
+use Rattle.std.proofs.Common.{◌≡◌, List, ◌++◌, length, map, ◌∙◌, ap}
 use Rattle.std.proofs.lemmas.Option.{IfSome_then}
 use Rattle.std.proofs.lemmas.Result.{IfOk-weaker}
 use Rattle.tree_machine.specs.Flat.{graph_code}
@@ -12,10 +12,7 @@ graph_read : (more : List Node) (others : List Record) (memory : EllenMem) (fron
     → memory.records ≡ others → length more ≡ front.nodes → length others ≡ front.records
     → graph_code (map node_part more) (map record_part others) ≡ ellen_front_code front memory
 graph_read more others memory front e f l k =
-    let n = front.nodes in
-    let r = front.records in
-    λ i. graph_code ((sym (ap (λ ns. take n (map node_part ns)) e ∙ take_read node_part more n l)) i)
-    ((sym (ap (λ ns. take r (map record_part ns)) f ∙ take_read record_part others r k)) i)
+    rw (e, f, take_read node_part more front.nodes l, take_read record_part others front.records k)
 
 pub returns : goal.returns
 returns c =
