@@ -1,5 +1,5 @@
 -- What is read of paired memories is paired, and each kind of access keeps a pairing.
-use Rattle.std.specs.Prelude.{◌≡◌, ℕ, not, ◌&&◌, nat_eq, refl, Option, Some, None, unwrap_or}
+use Rattle.std.specs.Prelude.{◌≡◌, ℕ, nat_eq, refl, Option, Some, None, unwrap_or}
 use Rattle.std.proofs.Common.{ap, arith, subst}
 use Rattle.std.proofs.lemmas.List.{length-set}
 use Rattle.natmit.specs.Types.{Outcome, Astray, Side, Left, Word, Node, Leaf, NatMitMem, NatMitLoc}
@@ -41,10 +41,7 @@ module _ (P : ℕ → ℕ → Type 0) where
   -- exchanges that compare with the plain word of paired nodes succeed together
   pub plain_paired : IsOneToOne P → (x y : ℕ) (v w : Word) → P x y → AreWordsPaired P v w → is_plain x v ≡ is_plain y w
   plain_paired one x y v w p h =
-      let flag : v.flag ≡ w.flag = h.0 in
-      let tag : v.tag ≡ w.tag = h.1 in
-      let node : nat_eq v.node x ≡ nat_eq w.node y = same_number P one v.node w.node x y h.2 p in
-      λ i. not (flag i) && not (tag i) && node i
+      let node : nat_eq v.node x ≡ nat_eq w.node y = same_number P one v.node w.node x y h.2 p in cc
 
 -- ---- a word that is written
 

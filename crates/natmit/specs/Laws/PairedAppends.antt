@@ -6,8 +6,8 @@ use Rattle.tree_machine.specs.Laws.PartsExactly.{parts_weaker}
 use Rattle.tree_machine.specs.Laws.PairedRange.{fresh_covers}
 use Rattle.tree_machine.specs.Pairing.{Pairing, IsAmong}
 use Rattle.tree_machine.proofs.FreshPairs.{choices_paired, fresh_one, fresh_within, fresh_paired}
-use Rattle.natmit.specs.Types.{Node, Leaf, Internal, NatMitMem, NatMitLoc}
-use Rattle.natmit.specs.Memory.{plain, node_at, key_at, internal_over, with_internal, new_internal}
+use Rattle.natmit.specs.Types.{Node, Leaf, NatMitMem, NatMitLoc}
+use Rattle.natmit.specs.Memory.{node_at, key_at, internal_over, with_internal, new_internal}
 use Rattle.natmit.specs.Pairs.{AreNodesPaired, AreMemoriesPaired, ArePlacesPaired}
 use Rattle.natmit.specs.Laws.Parts.{node_parts, place_parts}
 use Rattle.natmit.specs.Laws.PairedAccesses.{AreFoundPaired, AreGrown, key_paired}
@@ -55,8 +55,7 @@ with_node_paired p memory twin a b h g =
 over_paired : (P : ℕ → ℕ → Type 0) (k x y i j l m : ℕ) → P x y → i ≡ j → P l m
     → AreNodesPaired P (internal_over k i x l) (internal_over k j y m)
 over_paired P k x y i j l m p e q =
-    choices_paired (AreNodesPaired P) (nat_lt k i) (nat_lt k j) (Internal i (plain x) (plain l))
-    (Internal k (plain l) (plain x)) (Internal j (plain y) (plain m)) (Internal k (plain m) (plain y)) (ap (nat_lt k) e)
+    choices_paired (AreNodesPaired P) (nat_lt k i) (nat_lt k j) _ _ _ _ (ap (nat_lt k) e)
     (e, (refl, refl, p), (refl, refl, q)) (refl, (refl, refl, q), (refl, refl, p))
 
 -- the pairs with those of the new leaves and the new internal nodes

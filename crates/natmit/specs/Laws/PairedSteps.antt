@@ -27,8 +27,7 @@ module _ (P : ℕ → ℕ → Type 0) where
   tagging_paired : (machine : NatMit) (p q : Path) (d e : Side) (m o : Mode) → ArePathsPaired P p q
       → d ≡ e → AreModesPaired P m o → ArePlacesPaired P (tagging machine p d m) (tagging machine q e o)
   tagging_paired machine p q d e m o h same hm =
-      choices_paired (ArePlacesPaired P) machine.tag machine.tag (Tag p d m) (Sibling p d m) (Tag q e o) (Sibling q e o)
-      refl (h, same, hm) (h, same, hm)
+      choices_paired (ArePlacesPaired P) machine.tag machine.tag _ _ _ _ refl (h, same, hm) (h, same, hm)
 
   below_paired : (p q : Path) (l k : ℕ) (t v : Bool) → ArePathsPaired P p q → P l k → t ≡ v
       → ArePathsPaired P (path_below p l t) (path_below q k v)
@@ -56,10 +55,8 @@ module _ (P : ℕ → ℕ → Type 0) where
         → AreWordsPaired P v w → AreGoingAlike P (looked p l v) (looked q k w)
     looked_paired p q l k v w hp hl h =
         let node : nat_eq v.node l ≡ nat_eq w.node k = same_number P one v.node w.node l k h.2 hl in
-        let flag : v.flag ≡ w.flag = h.0 in
-        let tag : v.tag ≡ w.tag = h.1 in
         choices_paired (AreGoingAlike P) (nat_eq v.node l && (v.flag || v.tag)) (nat_eq w.node k && (w.flag || w.tag))
-        _ _ _ _ (λ i. node i && (flag i || tag i)) (hp, tt) tt
+        _ _ _ _ (cc) (hp, tt) tt
 
 -- ---- each place
 

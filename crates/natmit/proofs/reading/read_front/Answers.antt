@@ -1,4 +1,4 @@
-use Rattle.std.proofs.Common.{◌≡◌, ℕ, List, [], ◌++◌, length, map, take, sym, ◌∙◌, ap}
+use Rattle.std.proofs.Common.{◌≡◌, ℕ, List, [], ◌++◌, length, map, sym, ◌∙◌, ap}
 use Rattle.tree_machine.specs.Flat.{graph_code}
 use Rattle.tree_machine.specs.Laws.ReadParts.{take_read}
 use Rattle.natmit.specs.declared.memory.Node.{Node}
@@ -9,9 +9,7 @@ use Rattle.natmit.proofs.reading.read_front.Goals as goal
 graph_read : (more nodes : List Node) (count : ℕ) → nodes ≡ more → length more ≡ count
     → graph_code (map node_part more) []
     ≡ natmit_front_code (record { nodes = count; records = 0 }) (record { nodes = nodes })
-graph_read more nodes count e l =
-    ap (λ parts. graph_code parts [])
-    (sym (ap (λ ns. take count (map node_part ns)) e ∙ take_read node_part more count l))
+graph_read more nodes count e l = rw (e, take_read node_part more count l)
 
 pub returns : goal.returns
 returns c =
