@@ -1,6 +1,6 @@
 -- Each kind of access keeps a pairing.
 use Rattle.std.specs.Prelude.{◌≡◌, ℕ, Bool, true, false, ◌&&◌, nat_eq, List, [], ◌∷◌, ◌++◌, Option, Some, None, refl}
-use Rattle.std.proofs.Common.{◌∙◌, ap, arith, subst, sym, inr}
+use Rattle.std.proofs.Common.{◌∙◌, ap, arith, inr}
 use Rattle.std.proofs.lemmas.List.{length-set}
 use Rattle.tree_machine.specs.Cells.{IsPairedOrNone}
 use Rattle.tree_machine.specs.Pairing.{IsAmong, IsOneToOne, Pairing, Extends, AreOutcomesPaired, AreStepsPaired}
@@ -43,10 +43,8 @@ module _ (R : ℕ → ℕ → Type 0) (one : IsOneToOne R) where
   -- two exchanges that compare with paired update words succeed together
   pub words_compared : (u v f g : UpdateWord) → AreWordsPaired R u v → AreWordsPaired R f g → is_word u f ≡ is_word v g
   words_compared u v f g p q =
-      let kind = word_kind R R u v p in
-      let other = word_kind R R f g q in
       let same = records_compared _ _ _ _ (word_named R R u v p) (word_named R R f g q) in
-      word_is u f ∙ ((λ i. nat_eq (kind i) (other i) && same i) ∙ sym (word_is v g))
+      cc (word_is u f, word_is v g, word_kind R R u v p, word_kind R R f g q, same)
 
 -- ---- paired nodes have paired fields
 
@@ -65,7 +63,7 @@ module _ (P R : ℕ → ℕ → Type 0) where
   child_paired s a b h = search arith
 
   children_paired : (c d : Side) (a b : Node) → c ≡ d → AreNodesPaired P R a b → AreBoth P (child_on c a) (child_on d b)
-  children_paired c d a b e h = subst (λ s. AreBoth P (child_on c a) (child_on s b)) e (child_paired c a b h)
+  children_paired c d a b e h = rw (← e) (child_paired c a b h)
 
   with_update_paired : (u v : UpdateWord) (a b : Node) → AreWordsPaired R u v → AreNodesPaired P R a b
       → AreNodesPaired P R (with_update u a) (with_update v b)
@@ -79,8 +77,7 @@ module _ (P R : ℕ → ℕ → Type 0) where
 
   pub with_children_paired : (c d : Side) (x y : ℕ) (a b : Node) → c ≡ d → P x y → AreNodesPaired P R a b
       → AreNodesPaired P R (with_child c x a) (with_child d y b)
-  with_children_paired c d x y a b e p h =
-      subst (λ s. AreNodesPaired P R (with_child c x a) (with_child s y b)) e (with_child_paired c x y a b p h)
+  with_children_paired c d x y a b e p h = rw (← e) (with_child_paired c x y a b p h)
 
   shapes_paired : (a b : Node) → AreNodesPaired P R a b → AreShapesPaired P (Some (shape_in a)) (Some (shape_in b))
   shapes_paired (Leaf k) (Leaf j) h = h
@@ -162,15 +159,14 @@ module _ (p : Pairing) (m o : EllenMem) (h : ellen_pairs.memories p m o) where
       → ((u v : UpdateWord) → AreWordsPaired R u v → Outcomes (f u) (g v))
       → Steps (read_update m x f) (read_update o y g)
   read_update_keeps x y f g q k =
-      found_keeps (AreWordsPaired R) (update_of (node_at m x)) (update_of (node_at o y)) _ _
-      (update_paired P R _ _ (h.nodes x y q)) (λ u v w. stay (f u) (g v) (k u v w))
+      found_keeps (AreWordsPaired R) _ _ _ _ (update_paired P R _ _ (h.nodes x y q))
+      (λ u v w. stay (f u) (g v) (k u v w))
 
   -- a read of a child
   pub read_child_keeps : (x y : ℕ) (c d : Side) (f g : ℕ → Outcome EllenLoc) → P x y → c ≡ d
       → ((a b : ℕ) → P a b → Outcomes (f a) (g b)) → Steps (read_child m x c f) (read_child o y d g)
   read_child_keeps x y c d f g q e k =
-      found_keeps P (child_on c (node_at m x)) (child_on d (node_at o y)) _ _
-      (children_paired P R c d _ _ e (h.nodes x y q)) (λ a b w. stay (f a) (g b) (k a b w))
+      found_keeps P _ _ _ _ (children_paired P R c d _ _ e (h.nodes x y q)) (λ a b w. stay (f a) (g b) (k a b w))
 
   -- an exchange, where a and b are the memories with what is new, which these pairs of nodes and of records pair
   module _ (nodes records : List (ℕ × ℕ)) (a b : EllenMem)
@@ -207,8 +203,7 @@ module _ (p : Pairing) (m o : EllenMem) (h : ellen_pairs.memories p m o) where
         Later s t → ((u v : UpdateWord) → AreWordsPaired R u v → Outcomes (k u) (l v))
         → Steps (exchange_update m x e d a s k) (exchange_update o y f g b t l)
     exchange_update_keeps x y e f d g s t k l q same new won lost =
-        found_keeps (AreWordsPaired R) (update_of (node_at m x)) (update_of (node_at o y)) _ _
-        (update_paired P R _ _ (h.nodes x y q))
+        found_keeps (AreWordsPaired R) _ _ _ _ (update_paired P R _ _ (h.nodes x y q))
         (λ u v w. choices_paired Steps (is_word u e) (is_word v f) _ _ _ _
         (words_compared R h.records_one_to_one u v e f w same)
         (written x y _ _ s t q (with_update_paired Q S d g _ _ new) won) (stay (k u) (l v) (lost u v w)))
@@ -220,8 +215,7 @@ module _ (p : Pairing) (m o : EllenMem) (h : ellen_pairs.memories p m o) where
         let sides : side_of (key_at a n) (key_at m x) ≡ side_of (key_at b i) (key_at o y) =
         ap (λ j. side_of j (key_at m x)) (key_paired Q S _ _ (after.nodes n i new))
         ∙ ap (side_of (key_at b i)) (key_paired P R _ _ (h.nodes x y q)) in
-        found_keeps P (child_on _ (node_at m x)) (child_on _ (node_at o y)) _ _
-        (children_paired P R _ _ _ _ sides (h.nodes x y q))
+        found_keeps P _ _ _ _ (children_paired P R _ _ _ _ sides (h.nodes x y q))
         (λ u v w. choices_paired Steps (nat_eq u c) (nat_eq v d) _ _ _ _
         (same_number P h.nodes_one_to_one u v c d w same)
         (written x y _ _ s t q (with_children_paired Q S _ _ n i _ _ sides new) won) (stay k l lost))

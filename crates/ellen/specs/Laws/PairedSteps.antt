@@ -2,7 +2,7 @@
 use Rattle.std.specs.Prelude.{◌≡◌, ℕ, Bool, true, false, nat_eq, List, [], ◌∷◌, ◌++◌, length, Option, Some, None}
 use Rattle.std.specs.Prelude.{refl, if◌then◌else◌}
 use Rattle.std.specs.List.{AllZip}
-use Rattle.std.proofs.Common.{ap, arith, subst, inl, inr}
+use Rattle.std.proofs.Common.{ap, arith, inl, inr}
 use Rattle.sched_program.specs.Program.{key_of}
 use Rattle.ellen.specs.Types.{Op, Outcome, Ellen, UpdateWord, Node, Leaf, Internal, Record, Ins, Del, EllenMem, Above}
 use Rattle.ellen.specs.Types.{Base, Resume, SearchLoc, Update, Child, IFlag, InsOnly, DFlag, HelpLoc, InsChild}
@@ -58,8 +58,7 @@ module _ (p : Pairing) (root : IsAmong p.nodes 0 0) where
   returned_paired : (done : Bool) (y z : Resume) → AreResumesPaired P R y z
       → Outcomes (returned done y) (returned done z)
   returned_paired done y z k =
-      subst (λ b. Outcomes (unwound done y.base y.stack) (unwound done b z.stack)) k.1
-      (unwound_paired done y.base y.stack z.stack k.0)
+      rw (← k.1) (unwound_paired done y.base y.stack z.stack k.0)
 
   stacks_paired : (r s : ℕ) (y z : List ℕ) → R r s → AllZip R y z → AllZip R (y ++ r ∷ []) (z ++ s ∷ [])
   stacks_paired r s [] [] h k = (h, tt)
