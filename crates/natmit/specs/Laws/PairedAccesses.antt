@@ -1,6 +1,6 @@
 -- What is read of paired memories is paired, and each kind of access keeps a pairing.
 use Rattle.std.specs.Prelude.{◌≡◌, ℕ, nat_eq, refl, Option, Some, None, unwrap_or}
-use Rattle.std.proofs.Common.{ap, arith, subst}
+use Rattle.std.proofs.Common.{ap, arith}
 use Rattle.std.proofs.lemmas.List.{length-set}
 use Rattle.natmit.specs.Types.{Outcome, Astray, Side, Left, Word, Node, Leaf, NatMitMem, NatMitLoc}
 use Rattle.tree_machine.specs.SearchOrder.{side_of}
@@ -74,10 +74,8 @@ module _ (P : ℕ → ℕ → Type 0) (memory twin : NatMitMem) (h : AreMemories
         begin_paired = h.begin_paired;
         in_range = within_set P memory.nodes twin.nodes x y _ _ h.in_range;
         nodes_paired =
-            paired_set P memory.nodes twin.nodes x y (with_word d v (node_at memory x)) (with_word e w (node_at twin y))
-            (AreFoundPaired P) h.one_to_one h.in_range p
-            (subst (λ z. AreNodesPaired P (with_word d v (node_at memory x)) (with_word z w (node_at twin y))) same
-            (with_word_paired P d v w _ _ (h.nodes_paired x y p) g)) h.nodes_paired;
+            paired_set P memory.nodes twin.nodes x y _ _ (AreFoundPaired P) h.one_to_one h.in_range p
+            (rw (← same) (with_word_paired P d v w _ _ (h.nodes_paired x y p) g)) h.nodes_paired;
       }
 
 -- ---- kinds of access
@@ -130,8 +128,7 @@ module _ (p : Pairing) (memory twin : NatMitMem) (h : AreMemoriesPaired (IsAmong
       → ((v w : Word) → AreWordsPaired P v w → AreGoingAlike P (f v) (g w))
       → AreAccessesPaired (after_read memory x d f) (after_read twin y e g)
   read_keeps x y d e f g at same both =
-      found_paired (word_on d (node_at memory x)) (word_on e (node_at twin y)) _ _
-      (reads_paired P memory twin h x y d e at same) (λ v w r. stays (f v) (g w) (both v w r))
+      found_paired _ _ _ _ (reads_paired P memory twin h x y d e at same) (λ v w r. stays (f v) (g w) (both v w r))
 
   -- what is written may name new nodes, which the further pairs pair
   module _ (q : Pairing) (grown grown_twin : NatMitMem) (more : AreGrown q grown grown_twin) where
@@ -159,8 +156,7 @@ module _ (p : Pairing) (memory twin : NatMitMem) (h : AreMemoriesPaired (IsAmong
         (after_exchange twin y e k grown_twin desired_twin success_twin failure_twin)
     exchange_keeps x y d e l k desired desired_twin success failure success_twin failure_twin at same expected words won
         lost =
-        found_paired (word_on d (node_at memory x)) (word_on e (node_at twin y)) _ _
-        (reads_paired P memory twin h x y d e at same)
+        found_paired _ _ _ _ (reads_paired P memory twin h x y d e at same)
         (λ v w r. choices_paired AreAccessesPaired (is_plain l v) (is_plain k w) _ _ _ _
         (plain_paired P h.one_to_one l k v w expected r)
         (written x y d e desired desired_twin success success_twin at same words won)
@@ -170,6 +166,5 @@ module _ (p : Pairing) (memory twin : NatMitMem) (h : AreMemoriesPaired (IsAmong
   pub tag_keeps : (x y : ℕ) (d e : Side) (goes goes_twin : Outcome NatMitLoc) → P x y → d ≡ e
       → AreGoingAlike P goes goes_twin → AreAccessesPaired (after_tag memory x d goes) (after_tag twin y e goes_twin)
   tag_keeps x y d e goes goes_twin at same going =
-      found_paired (word_on d (node_at memory x)) (word_on e (node_at twin y)) _ _
-      (reads_paired P memory twin h x y d e at same)
+      found_paired _ _ _ _ (reads_paired P memory twin h x y d e at same)
       (λ v w r. written p memory twin unchanged x y d e _ _ goes goes_twin at same (r.0, refl, r.2) going)
