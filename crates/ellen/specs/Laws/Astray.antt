@@ -7,7 +7,8 @@ use Rattle.ellen.specs.Types.{Splice, DelClean, Back, EllenLoc, Search, Help}
 use Rattle.ellen.specs.declared.place.Base.TheVariants as base
 use Rattle.tree_machine.specs.declared.search_order.Side.TheVariants as side
 use Rattle.ellen.specs.Memory.{child_on, is_word, node_at, record_at, insert_of, delete_of}
-use Rattle.ellen.specs.Table.{After, found, exchange_update, exchange_child, settled, unwound, search_act, help_act, act}
+use Rattle.ellen.specs.Table.{After, found, exchange_update, exchange_child, settled, unwound, search_act, help_act}
+use Rattle.ellen.specs.Table.{act}
 
 -- where the access went astray, the memory is the one before
 abbrev IsCalm : EllenMem → After → Type 0
@@ -69,9 +70,11 @@ module _ (memory : EllenMem) where
       found_calm (delete_of (record_at memory r)) _
       (λ d. exchange_update_calm d.parent d.parent_update _ memory _ _ (goes_sure _))
   help_calm machine (Right r) resume =
-      found_calm (delete_of (record_at memory r)) _ (λ d. found_calm (child_on side.Right (node_at memory d.parent)) _ (λ c e. refl))
+      found_calm (delete_of (record_at memory r)) _
+      (λ d. found_calm (child_on side.Right (node_at memory d.parent)) _ (λ c e. refl))
   help_calm machine (Other r s) resume =
-      found_calm (delete_of (record_at memory r)) _ (λ d. found_calm (child_on s (node_at memory d.parent)) _ (λ o e. refl))
+      found_calm (delete_of (record_at memory r)) _
+      (λ d. found_calm (child_on s (node_at memory d.parent)) _ (λ o e. refl))
   help_calm machine (Splice r o) resume =
       found_calm (delete_of (record_at memory r)) _
       (λ d. exchange_child_calm d.grandparent d.parent o memory _ _ (goes_sure _))

@@ -13,7 +13,8 @@ use Rattle.ellen.specs.Types.{Outcome, Astray, Side, UpdateWord, Node, Leaf, Ins
 use Rattle.ellen.specs.Types.{Del, EllenMem, EllenLoc}
 use Rattle.tree_machine.specs.declared.search_order.Side.TheVariants as side
 use Rattle.ellen.specs.declared.memory.UpdateWord.TheVariants as word
-use Rattle.ellen.specs.Memory.{shape_in, shapes, key_in, update_of, child_on, with_update, with_child, is_word, node_at, key_at, set_node}
+use Rattle.ellen.specs.Memory.{shape_in, shapes, key_in, update_of, child_on, with_update, with_child, is_word, node_at}
+use Rattle.ellen.specs.Memory.{key_at, set_node}
 use Rattle.ellen.specs.Memory.{shape_in, shapes, insert_of, delete_of}
 use Rattle.ellen.specs.Table.{After, found, read_update, read_child, exchange_update, exchange_child}
 use Rattle.ellen.specs.Pairs.{AreBoth, AreWordsPaired, AreNodesPaired, AreRecordsPaired, AreMemoriesPaired, ellen_pairs}

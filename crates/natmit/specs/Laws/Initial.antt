@@ -91,7 +91,8 @@ put_in_range memory k h =
     let p = self.0 in
     let root = self.2.root_paired in
     let ends =
-    ends_paired (IsAmong p.nodes) (shapes memory) (shapes memory) (seen (IsAmong p.nodes) memory memory self.2) k n 0 0 0 0 root root in
+    ends_paired (IsAmong p.nodes) (shapes memory) (shapes memory) (seen (IsAmong p.nodes) memory memory self.2) k n 0
+    0 0 0 root root in
     let q = with_two_new p memory memory k in
     let more = two_new p memory memory self.2 k end.leaf end.leaf ends.1 in
     let grown = with_internal memory k end.leaf in
