@@ -1,19 +1,16 @@
 -- Help places in bytes.
-use Rattle.std.proofs.Common.{◌≡◌, ℕ, suc, ◌+◌, ◌*◌, ◌<◌, true, List, [], ◌∷◌, ◌++◌, map, length, refl, sym, ◌∙◌}
+use Rattle.std.proofs.Common.{◌≡◌, ℕ, suc, ◌+◌, ◌*◌, ◌<◌, true, List, [], ◌∷◌, ◌++◌, map, length, refl}
 use Rattle.std.proofs.Common.{ap, arith, add-one}
 use Rattle.std.specs.Prelude.{Some, All, nat_lt}
 use Rattle.std.specs.List.{flat_map}
 use Rattle.std.proofs.lemmas.Bool.Decides.{nat_tests}
 use Rattle.std.proofs.lemmas.List.{length-map}
 use Rattle.std.proofs.lemmas.List.Elements.{All-head, All-tail}
-use Rattle.tree_machine.specs.Flat.{number_code, reference_number, short_head, headed, facts_code, cell_code}
+use Rattle.tree_machine.specs.Flat.{number_code, reference_number, short_head, cell_code}
 use Rattle.tree_machine.specs.Flat.{part_content}
 use Rattle.tree_machine.specs.Laws.SmallCodes.{small_code}
-use Rattle.ellen.specs.declared.place.HelpLoc.{HelpLoc}
-use Rattle.ellen.specs.declared.place.Resume.{Resume}
-use Rattle.ellen.specs.declared.place.EllenLoc.TheVariants.{Help}
-use Rattle.ellen.specs.Parts.{help_number, help_side, help_record, help_node, base_number}
-use Rattle.ellen.specs.Parts.{place_part}
+use Rattle.ellen.specs.Types.{Resume, HelpLoc, Help}
+use Rattle.ellen.specs.Parts.{help_number, help_side, help_record, help_node, base_number, place_part}
 
 -- ---- a stack
 
@@ -23,10 +20,8 @@ stack_coded : (stack : List ℕ) → All (λ number. number < 254) stack
 stack_coded [] h = refl
 stack_coded (number ∷ stack) h =
     let less : number < 254 = All-head (λ number. number < 254) number stack h in
-    let others = map reference_number (map Some stack) in
-    ap (λ l. l ++ flat_map number_code others) (small_code (suc number) (omega arith))
-    ∙ (ap (λ x. x ∷ flat_map number_code others) (sym (add-one number))
-    ∙ ap (λ l. (number + 1) ∷ l) (stack_coded stack (All-tail (λ number. number < 254) number stack h)))
+    let rest = stack_coded stack (All-tail (λ number. number < 254) number stack h) in
+    rw (small_code (suc number) (omega arith), rest, add-one)
 
 head_is : (k : ℕ) → k < 6 → short_head 1 4 (suc (suc k)) ≡ Some (69 + 30 * k)
 head_is k bounded =
@@ -44,12 +39,4 @@ pub help_coded : (at : HelpLoc) (resume : Resume) → All (λ number. number < 2
     ++ (number_code (suc (help_record at)) ++ map (λ number. number + 1) resume.stack))
 help_coded at resume below short =
     let kept = resume.stack in
-    let own = number_code (suc (help_record at)) in
-    let facts = 5 ∷ help_number at ∷ help_side at ∷ base_number resume.base ∷ [] in
-    let others = flat_map number_code (map reference_number (map Some kept)) in
-    let refs = number_code (reference_number (help_node at)) ++ (own ++ others) in
-    let count : length (map Some kept) ≡ length kept = length-map kept Some in
-    ap (λ k. facts_code (1 ∷ facts) (suc (suc k)) ++ refs) count
-    ∙ (ap (λ h. headed h 1 facts (suc (suc (length kept))) ++ refs) (head_is (length kept) short)
-    ∙ ap (λ l. ((69 + 30 * length kept) ∷ flat_map number_code facts)
-    ++ (number_code (reference_number (help_node at)) ++ (own ++ l))) (stack_coded kept below))
+    rw (length-map kept Some, head_is (length kept) short, stack_coded kept below)

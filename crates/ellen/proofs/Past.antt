@@ -1,8 +1,7 @@
 -- A node that is not there is not written.
 use Rattle.std.proofs.Common.{◌≡◌, ℕ, ◌≤◌, length, ap}
 use Rattle.std.proofs.lemmas.List.{set_past}
-use Rattle.ellen.specs.declared.memory.Node.{Node}
-use Rattle.ellen.specs.declared.memory.EllenMem.{EllenMem}
+use Rattle.ellen.specs.Types.{Node, EllenMem}
 use Rattle.ellen.specs.Memory.{set_node}
 
 pub node_past : (memory : EllenMem) (x : ℕ) (node : Node) → length memory.nodes ≤ x → set_node memory x node ≡ memory

@@ -3,17 +3,13 @@ use Rattle.std.proofs.Common.{◌≡◌, ℕ, ◌<◌, [], ◌∷◌, ap, sym, �
 use Rattle.std.specs.Prelude.{Option, Some, None}
 use Rattle.tree_machine.specs.Flat.{number_code}
 use Rattle.tree_machine.specs.Laws.SmallCodes.{small_code}
-use Rattle.ellen.specs.declared.memory.UpdateWord.{UpdateWord}
+use Rattle.ellen.specs.Types.{UpdateWord, Above}
 use Rattle.ellen.specs.declared.memory.UpdateWord.TheVariants as word
-use Rattle.ellen.specs.declared.place.Above.{Above}
 use Rattle.ellen.specs.Parts.{word_number, above_number}
 
 word_small : (u : UpdateWord) → word_number u < 5
 word_small word.Untouched = omega arith
-word_small (word.Clean r) = omega arith
-word_small (word.InsertFlag r) = omega arith
-word_small (word.DeleteFlag r) = omega arith
-word_small (word.Mark r) = omega arith
+word_small u = omega arith
 
 above_small : (a : Option Above) → above_number a < 6
 above_small None = omega arith

@@ -1,9 +1,7 @@
 -- What the machine means.
 use Rattle.tree_machine.specs.Rules.{Rules}
 use Rattle.tree_machine.specs.SearchOrder.{KeepsSearchOrder}
-use Rattle.ellen.specs.declared.memory.EllenMem.{EllenMem}
-use Rattle.ellen.specs.declared.place.EllenLoc.{EllenLoc}
-use Rattle.ellen.specs.declared.machine.Ellen.{Ellen}
+use Rattle.ellen.specs.Types.{Ellen, EllenMem, EllenLoc}
 use Rattle.ellen.specs.Pairs.{ellen_pairs}
 use Rattle.ellen.specs.Memory.{shapes}
 use Rattle.ellen.specs.Initial.{initial_memory}

@@ -2,8 +2,7 @@
 use Rattle.std.specs.Prelude.{ℕ, List, [], ◌∷◌, length, fold}
 use Rattle.tree_machine.specs.SearchOrder.{side_of, end_of}
 use Rattle.ellen.specs.declared.memory.UpdateWord.TheVariants.{Untouched}
-use Rattle.ellen.specs.declared.memory.Node.TheVariants.{Leaf, Internal}
-use Rattle.ellen.specs.declared.memory.EllenMem.{EllenMem}
+use Rattle.ellen.specs.Types.{Leaf, Internal, EllenMem}
 use Rattle.ellen.specs.Memory.{shapes, key_at, set_child, with_internal, new_internal}
 
 -- the root, over the two greatest sentinels

@@ -2,13 +2,10 @@
 pub mod Astray
 pub mod Codes
 pub mod Exact
-pub mod Forms
 pub mod Initial
-pub mod Pairs
 pub mod PairedAccesses
 pub mod PairedAppends
 pub mod PairedSteps
 pub mod Parts
-pub mod PartsRange
 pub mod Range
 pub mod Rules

@@ -2,19 +2,12 @@
 use Rattle.std.specs.Prelude.{ℕ, ◌+◌, Bool, true, false, if◌then◌else◌, nat_eq, nat_lt, [], ◌∷◌, ◌++◌, length}
 use Rattle.std.specs.Prelude.{slice_get, slice_set, Option, Some, None, unwrap_or}
 use Rattle.std.specs.Option.{option_map}
-use Rattle.ellen.specs.declared.memory.UpdateWord.{UpdateWord}
+use Rattle.ellen.specs.Types.{Side, UpdateWord, Node, Leaf, Internal, InsertRecord, DeleteRecord, Record, Ins, Del}
+use Rattle.ellen.specs.Types.{EllenMem}
 use Rattle.ellen.specs.declared.memory.UpdateWord.TheVariants.{Untouched, Clean, InsertFlag, DeleteFlag, Mark}
-use Rattle.ellen.specs.declared.memory.Node.{Node}
-use Rattle.ellen.specs.declared.memory.Node.TheVariants.{Leaf, Internal}
-use Rattle.ellen.specs.declared.memory.InsertRecord.{InsertRecord}
-use Rattle.ellen.specs.declared.memory.DeleteRecord.{DeleteRecord}
-use Rattle.ellen.specs.declared.memory.Record.{Record}
-use Rattle.ellen.specs.declared.memory.Record.TheVariants.{Ins, Del}
-use Rattle.tree_machine.specs.declared.search_order.Side.{Side}
 use Rattle.tree_machine.specs.declared.search_order.Side.TheVariants.{Left, Right}
 use Rattle.tree_machine.specs.declared.search_order.Shape.{Shape}
 use Rattle.tree_machine.specs.declared.search_order.Shape.TheVariants as shape
-use Rattle.ellen.specs.declared.memory.EllenMem.{EllenMem}
 
 -- ---- nodes
 

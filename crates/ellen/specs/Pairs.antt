@@ -2,22 +2,10 @@
 use Rattle.std.specs.Prelude.{◌≡◌, ℕ, ◌<◌, length, Option, Some, None}
 use Rattle.std.specs.List.{AllZip}
 use Rattle.tree_machine.specs.Pairing.{IsAmong, IsOneToOne, Pairs}
-use Rattle.ellen.specs.declared.memory.UpdateWord.{UpdateWord}
+use Rattle.ellen.specs.Types.{UpdateWord, Node, Leaf, Internal, Record, Ins, Del, EllenMem, Above, Resume, SearchLoc}
+use Rattle.ellen.specs.Types.{Update, Child, IFlag, InsOnly, DFlag, HelpLoc, InsChild, InsClean, Mark, Right, Other}
+use Rattle.ellen.specs.Types.{Splice, DelClean, Back, EllenLoc, Search, Help}
 use Rattle.ellen.specs.declared.memory.UpdateWord.TheVariants as word
-use Rattle.ellen.specs.declared.memory.Node.{Node}
-use Rattle.ellen.specs.declared.memory.Node.TheVariants.{Leaf, Internal}
-use Rattle.ellen.specs.declared.memory.Record.{Record}
-use Rattle.ellen.specs.declared.memory.Record.TheVariants.{Ins, Del}
-use Rattle.ellen.specs.declared.memory.EllenMem.{EllenMem}
-use Rattle.ellen.specs.declared.place.Above.{Above}
-use Rattle.ellen.specs.declared.place.Resume.{Resume}
-use Rattle.ellen.specs.declared.place.SearchLoc.{SearchLoc}
-use Rattle.ellen.specs.declared.place.SearchLoc.TheVariants.{Update, Child, IFlag, InsOnly, DFlag}
-use Rattle.ellen.specs.declared.place.HelpLoc.{HelpLoc}
-use Rattle.ellen.specs.declared.place.HelpLoc.TheVariants.{InsChild, InsClean, Mark, Right, Other, Splice, DelClean}
-use Rattle.ellen.specs.declared.place.HelpLoc.TheVariants.{Back}
-use Rattle.ellen.specs.declared.place.EllenLoc.{EllenLoc}
-use Rattle.ellen.specs.declared.place.EllenLoc.TheVariants.{Search, Help}
 use Rattle.ellen.specs.Memory.{node_at, record_at}
 
 -- neither is there, or both are and are paired

@@ -3,26 +3,12 @@ use Rattle.std.specs.Prelude.{◌≡◌, ℕ, suc, List, [], ◌∷◌, ◌++◌
 use Rattle.tree_machine.specs.Canonical.{canonical_code}
 use Rattle.tree_machine.specs.Flat.{all_front, behind_code, cell_code, front_code, part_content, parts_code}
 use Rattle.tree_machine.specs.Parts.{Part, Parts, no_part}
-use Rattle.tree_machine.specs.declared.front.Front.{Front}
-use Rattle.tree_machine.specs.declared.search_order.Side.{Side}
+use Rattle.ellen.specs.Types.{Front, Side, UpdateWord, Node, Leaf, Internal, Record, Ins, Del, EllenMem, Above, Base}
+use Rattle.ellen.specs.Types.{SearchLoc, Update, Child, IFlag, InsOnly, DFlag, HelpLoc, InsChild, InsClean, Mark, Right}
+use Rattle.ellen.specs.Types.{Other, Splice, DelClean, Back, EllenLoc, Search, Help}
 use Rattle.tree_machine.specs.declared.search_order.Side.TheVariants as side
-use Rattle.ellen.specs.declared.memory.UpdateWord.{UpdateWord}
 use Rattle.ellen.specs.declared.memory.UpdateWord.TheVariants as word
-use Rattle.ellen.specs.declared.memory.Node.{Node}
-use Rattle.ellen.specs.declared.memory.Node.TheVariants.{Leaf, Internal}
-use Rattle.ellen.specs.declared.memory.Record.{Record}
-use Rattle.ellen.specs.declared.memory.Record.TheVariants.{Ins, Del}
-use Rattle.ellen.specs.declared.memory.EllenMem.{EllenMem}
-use Rattle.ellen.specs.declared.place.Above.{Above}
-use Rattle.ellen.specs.declared.place.Base.{Base}
 use Rattle.ellen.specs.declared.place.Base.TheVariants.{Again, Insert, Delete}
-use Rattle.ellen.specs.declared.place.SearchLoc.{SearchLoc}
-use Rattle.ellen.specs.declared.place.SearchLoc.TheVariants.{Update, Child, IFlag, InsOnly, DFlag}
-use Rattle.ellen.specs.declared.place.HelpLoc.{HelpLoc}
-use Rattle.ellen.specs.declared.place.HelpLoc.TheVariants.{InsChild, InsClean, Mark, Right, Other, Splice, DelClean}
-use Rattle.ellen.specs.declared.place.HelpLoc.TheVariants.{Back}
-use Rattle.ellen.specs.declared.place.EllenLoc.{EllenLoc}
-use Rattle.ellen.specs.declared.place.EllenLoc.TheVariants.{Search, Help}
 
 -- ---- update words
 

@@ -1,18 +1,7 @@
 -- Each number of a node or record names one of the memory.
 use Rattle.std.specs.Prelude.{ℕ, ◌<◌, length, IfSome, All}
-use Rattle.ellen.specs.declared.memory.UpdateWord.{UpdateWord}
-use Rattle.ellen.specs.declared.memory.Node.{Node}
-use Rattle.ellen.specs.declared.memory.Node.TheVariants.{Leaf, Internal}
-use Rattle.ellen.specs.declared.memory.Record.{Record}
-use Rattle.ellen.specs.declared.memory.Record.TheVariants.{Ins, Del}
-use Rattle.ellen.specs.declared.memory.EllenMem.{EllenMem}
-use Rattle.ellen.specs.declared.place.Above.{Above}
-use Rattle.ellen.specs.declared.place.Resume.{Resume}
-use Rattle.ellen.specs.declared.place.EllenLoc.{EllenLoc}
-use Rattle.ellen.specs.declared.place.EllenLoc.TheVariants.{Search, Help}
-use Rattle.ellen.specs.declared.place.SearchLoc.{SearchLoc}
-use Rattle.ellen.specs.declared.place.SearchLoc.TheVariants.{Update, Child, IFlag, InsOnly, DFlag}
-use Rattle.ellen.specs.declared.place.HelpLoc.{HelpLoc}
+use Rattle.ellen.specs.Types.{UpdateWord, Node, Leaf, Internal, Record, Ins, Del, EllenMem, Above, Resume, SearchLoc}
+use Rattle.ellen.specs.Types.{Update, Child, IFlag, InsOnly, DFlag, HelpLoc, EllenLoc, Search, Help}
 use Rattle.ellen.specs.Parts.{word_record, help_record, help_node}
 
 -- the record that an update word names is below this number, if it names one

@@ -27,8 +27,8 @@ pub struct Ellen {
 impl Machine for Ellen {
     ghost use Rattle.sched_program.specs.Laws.Exact.{nat_exact, list_exact};
     ghost use Rattle.ellen.specs.EllenRules.{ellen_rules};
+    ghost use Rattle.ellen.specs.Laws.Codes.{ellen_forms};
     ghost use Rattle.ellen.specs.Laws.Exact.{machine_exact, memory_exact, place_exact};
-    ghost use Rattle.ellen.specs.Laws.Forms.{ellen_forms};
     ghost use Rattle.ellen.specs.Laws.Rules.{ellen_lawful};
     ghost use Rattle.ellen.specs.Parts.{ellen_form};
 
@@ -102,8 +102,7 @@ impl Machine for Ellen {
 }
 
 impl Encode for Ellen {
-    ghost use Rattle.ellen.specs.Laws.Codes.{ellen_tells, ellen_cut};
-    ghost use Rattle.ellen.specs.Laws.Forms.{ellen_decodes};
+    ghost use Rattle.ellen.specs.Laws.Codes.{ellen_tells, ellen_cut, ellen_decodes};
     ghost use Rattle.ellen.specs.Parts.{ellen_behind_code, ellen_code, ellen_front_code};
 
     ghost form_code = { λ bytes. bytes };

@@ -1,9 +1,7 @@
 -- A node that is not there is not written.
 use Rattle.std.proofs.Common.{◌≡◌, ℕ, ◌≤◌, length, ap}
 use Rattle.std.proofs.lemmas.List.{set_past as list_past}
-use Rattle.tree_machine.specs.declared.search_order.Side.{Side}
-use Rattle.natmit.specs.declared.memory.Word.{Word}
-use Rattle.natmit.specs.declared.memory.NatMitMem.{NatMitMem}
+use Rattle.natmit.specs.Types.{Side, Word, NatMitMem}
 use Rattle.natmit.specs.Memory.{node_at, with_word, set_word}
 
 pub set_past : (memory : NatMitMem) (x : ℕ) (d : Side) (w : Word) → length memory.nodes ≤ x

@@ -1,8 +1,7 @@
 -- The initial memory.
 use Rattle.std.specs.Prelude.{ℕ, List, [], ◌∷◌, length, fold}
 use Rattle.tree_machine.specs.SearchOrder.{end_of}
-use Rattle.natmit.specs.declared.memory.Node.TheVariants.{Leaf, Internal}
-use Rattle.natmit.specs.declared.memory.NatMitMem.{NatMitMem}
+use Rattle.natmit.specs.Types.{Leaf, Internal, NatMitMem}
 use Rattle.natmit.specs.Memory.{plain, shapes, put_at}
 
 -- the root R, node 1 which is S, and three leaves of keys above all that programs name

@@ -6,3 +6,4 @@ pub mod Pairs
 pub mod Parts
 pub mod Range
 pub mod Table
+pub mod Types

@@ -1,11 +1,7 @@
 -- What the machine means.
 use Rattle.tree_machine.specs.Rules.{Rules}
 use Rattle.tree_machine.specs.SearchOrder.{KeepsSearchOrder}
-use Rattle.natmit.specs.declared.memory.NatMitMem.{NatMitMem}
-use Rattle.natmit.specs.declared.place.Mode.TheVariants.{Plain}
-use Rattle.natmit.specs.declared.place.NatMitLoc.{NatMitLoc}
-use Rattle.natmit.specs.declared.place.NatMitLoc.TheVariants.{Begin}
-use Rattle.natmit.specs.declared.machine.NatMit.{NatMit}
+use Rattle.natmit.specs.Types.{NatMit, NatMitMem, Plain, NatMitLoc, Begin}
 use Rattle.natmit.specs.Memory.{shapes}
 use Rattle.natmit.specs.Initial.{initial_memory}
 use Rattle.natmit.specs.Pairs.{natmit_pairs}

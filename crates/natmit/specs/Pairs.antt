@@ -1,16 +1,8 @@
 -- When a pairing of node numbers pairs words, nodes, places and memories: they differ in the numbers alone.
 use Rattle.std.specs.Prelude.{◌≡◌, ℕ, ◌<◌, length}
 use Rattle.tree_machine.specs.Pairing.{IsAmong, IsOneToOne, Pairs}
-use Rattle.natmit.specs.declared.memory.Word.{Word}
-use Rattle.natmit.specs.declared.memory.Node.{Node}
-use Rattle.natmit.specs.declared.memory.Node.TheVariants.{Leaf, Internal}
-use Rattle.natmit.specs.declared.memory.NatMitMem.{NatMitMem}
-use Rattle.natmit.specs.declared.place.Mode.{Mode}
-use Rattle.natmit.specs.declared.place.Mode.TheVariants.{Plain, Owner}
-use Rattle.natmit.specs.declared.place.Path.{Path}
-use Rattle.natmit.specs.declared.place.NatMitLoc.{NatMitLoc}
-use Rattle.natmit.specs.declared.place.NatMitLoc.TheVariants.{Begin, Down, Put, Flag, Look, CleanRead, Tag, Sibling}
-use Rattle.natmit.specs.declared.place.NatMitLoc.TheVariants.{Swing}
+use Rattle.natmit.specs.Types.{Word, Node, Leaf, Internal, NatMitMem, Mode, Plain, Owner, Path, NatMitLoc, Begin, Down}
+use Rattle.natmit.specs.Types.{Put, Flag, Look, CleanRead, Tag, Sibling, Swing}
 use Rattle.natmit.specs.Memory.{node_at}
 
 module _ (P : ℕ → ℕ → Type 0) where

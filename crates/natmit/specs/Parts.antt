@@ -1,21 +1,10 @@
 -- The nodes and what the threads hold in parts: the numbers of nodes are apart from all else.
 use Rattle.std.specs.Prelude.{ℕ, ◌+◌, ◌*◌, Bool, if◌then◌else◌, List, [], ◌∷◌, map, Option, Some, None}
-use Rattle.tree_machine.specs.declared.search_order.Side.{Side}
-use Rattle.tree_machine.specs.declared.search_order.Side.TheVariants.{Left, Right}
+use Rattle.natmit.specs.Types.{Front, Side, Left, Right, Word, Node, Leaf, Internal, NatMitMem, Mode, Plain, Owner}
+use Rattle.natmit.specs.Types.{Path, NatMitLoc, Begin, Down, Put, Flag, Look, CleanRead, Tag, Sibling, Swing}
 use Rattle.tree_machine.specs.Canonical.{canonical_code}
 use Rattle.tree_machine.specs.Flat.{all_front, behind_code, front_code, parts_code}
 use Rattle.tree_machine.specs.Parts.{Part, Parts}
-use Rattle.tree_machine.specs.declared.front.Front.{Front}
-use Rattle.natmit.specs.declared.memory.Word.{Word}
-use Rattle.natmit.specs.declared.memory.Node.{Node}
-use Rattle.natmit.specs.declared.memory.Node.TheVariants.{Leaf, Internal}
-use Rattle.natmit.specs.declared.memory.NatMitMem.{NatMitMem}
-use Rattle.natmit.specs.declared.place.Mode.{Mode}
-use Rattle.natmit.specs.declared.place.Mode.TheVariants.{Plain, Owner}
-use Rattle.natmit.specs.declared.place.Path.{Path}
-use Rattle.natmit.specs.declared.place.NatMitLoc.{NatMitLoc}
-use Rattle.natmit.specs.declared.place.NatMitLoc.TheVariants.{Begin, Down, Put, Flag, Look, CleanRead, Tag, Sibling}
-use Rattle.natmit.specs.declared.place.NatMitLoc.TheVariants.{Swing}
 
 abbrev pub bit : Bool → ℕ
 bit b = if b then 1 else 0

@@ -1,14 +1,7 @@
 -- Each number of a node names one of the memory.
 use Rattle.std.specs.Prelude.{ℕ, ◌<◌, length, All}
-use Rattle.natmit.specs.declared.memory.Node.{Node}
-use Rattle.natmit.specs.declared.memory.Node.TheVariants.{Leaf, Internal}
-use Rattle.natmit.specs.declared.memory.NatMitMem.{NatMitMem}
-use Rattle.natmit.specs.declared.place.Mode.{Mode}
-use Rattle.natmit.specs.declared.place.Mode.TheVariants.{Plain, Owner}
-use Rattle.natmit.specs.declared.place.Path.{Path}
-use Rattle.natmit.specs.declared.place.NatMitLoc.{NatMitLoc}
-use Rattle.natmit.specs.declared.place.NatMitLoc.TheVariants.{Begin, Down, Put, Flag, Look, CleanRead, Tag, Sibling}
-use Rattle.natmit.specs.declared.place.NatMitLoc.TheVariants.{Swing}
+use Rattle.natmit.specs.Types.{Node, Leaf, Internal, NatMitMem, Mode, Plain, Owner, Path, NatMitLoc, Begin, Down, Put}
+use Rattle.natmit.specs.Types.{Flag, Look, CleanRead, Tag, Sibling, Swing}
 
 -- the numbers in a node are below this one
 abbrev pub IsNodeIn : ℕ → Node → Type 0

@@ -1,8 +1,7 @@
 //! The machine and its variant.
 ghost use Rattle.sched_program.specs.Laws.Exact.{nat_exact, list_exact};
-ghost use Rattle.natmit.specs.Laws.Codes.{natmit_tells, natmit_cut};
+ghost use Rattle.natmit.specs.Laws.Codes.{natmit_tells, natmit_cut, natmit_decodes, natmit_forms};
 ghost use Rattle.natmit.specs.Laws.Exact.{machine_exact, memory_exact, place_exact};
-ghost use Rattle.natmit.specs.Laws.Forms.{natmit_decodes, natmit_forms};
 ghost use Rattle.natmit.specs.Laws.Rules.{natmit_lawful};
 ghost use Rattle.natmit.specs.NatMitRules.{natmit_rules};
 ghost use Rattle.natmit.specs.Parts.{natmit_behind_code, natmit_code, natmit_form, natmit_front_code};

@@ -25,6 +25,7 @@ pub mod PairedRange
 pub mod PartCells
 pub mod PartForms
 pub mod PartsBy
+pub mod PartsExactly
 pub mod ReadBehind
 pub mod ReadParts
 pub mod SearchOrder

@@ -1,6 +1,7 @@
 -- Machines, memories and places are one and the same where they compare as equal.
 use Rattle.std.specs.Prelude.{refl}
-use Rattle.std.proofs.Common.{ap}
+use Rattle.std.proofs.Common.{ap, arith}
+use Rattle.std.proofs.lemmas.Bool.Decides.{nat_tests}
 use Rattle.sched_program.specs.Exact.{IsExact}
 use Rattle.sched_program.specs.Laws.Exact.{nat_exact, bool_exact, list_exact, option_exact}
 use Rattle.tree_machine.specs.Laws.FieldsExact.{two_fields, three_fields, four_fields}
@@ -19,13 +20,9 @@ use Rattle.ellen.specs.contracts.place.SearchLocPartialEq.TheImpl.{eq-value as s
 use Rattle.ellen.specs.contracts.place.HelpLocPartialEq.TheImpl.{eq-value as help_eq}
 use Rattle.ellen.specs.contracts.place.EllenLocPartialEq.TheImpl.{eq-value as place_eq}
 use Rattle.ellen.specs.declared.memory.UpdateWord.TheVariants as word
-use Rattle.ellen.specs.declared.memory.Node.TheVariants.{Leaf, Internal}
-use Rattle.ellen.specs.declared.memory.Record.TheVariants.{Ins, Del}
-use Rattle.ellen.specs.declared.place.Base.TheVariants.{Again, Insert, Delete}
-use Rattle.ellen.specs.declared.place.EllenLoc.TheVariants.{Search, Help}
-use Rattle.ellen.specs.declared.place.SearchLoc.TheVariants.{Update, Child, IFlag, InsOnly, DFlag}
-use Rattle.ellen.specs.declared.place.HelpLoc.TheVariants.{InsChild, InsClean, Mark, Right, Other, Splice, DelClean}
-use Rattle.ellen.specs.declared.place.HelpLoc.TheVariants.{Back}
+use Rattle.ellen.specs.Types.{Leaf, Internal, Ins, Del, Update, Child, IFlag, InsOnly, DFlag, InsChild}
+use Rattle.ellen.specs.Types.{Other, Search, Help}
+use Rattle.ellen.specs.declared.place.Base.TheVariants.{Again}
 
 pub machine_exact : IsExact machine_eq.it
 machine_exact a b h =
@@ -34,11 +31,7 @@ machine_exact a b h =
 
 pub word_exact : IsExact word_eq.it
 word_exact word.Untouched word.Untouched h = refl
-word_exact (word.Clean r) (word.Clean s) h = ap word.Clean (nat_exact r s h)
-word_exact (word.InsertFlag r) (word.InsertFlag s) h = ap word.InsertFlag (nat_exact r s h)
-word_exact (word.DeleteFlag r) (word.DeleteFlag s) h = ap word.DeleteFlag (nat_exact r s h)
-word_exact (word.Mark r) (word.Mark s) h = ap word.Mark (nat_exact r s h)
-word_exact a b h = cc
+word_exact a b h = grind (arith, nat_tests)
 
 pub node_exact : IsExact node_eq.it
 node_exact (Leaf k) (Leaf j) h = ap Leaf (nat_exact k j h)
@@ -79,9 +72,7 @@ above_exact a b h =
 
 pub base_exact : IsExact base_eq.it
 base_exact Again Again h = refl
-base_exact Insert Insert h = refl
-base_exact Delete Delete h = refl
-base_exact a b h = cc
+base_exact a b h = grind arith
 
 pub resume_exact : IsExact resume_eq.it
 resume_exact a b h =
@@ -100,14 +91,8 @@ search_exact a b h = cc
 
 pub help_exact : IsExact help_eq.it
 help_exact (InsChild r) (InsChild s) h = ap InsChild (nat_exact r s h)
-help_exact (InsClean r) (InsClean s) h = ap InsClean (nat_exact r s h)
-help_exact (Mark r) (Mark s) h = ap Mark (nat_exact r s h)
-help_exact (Right r) (Right s) h = ap Right (nat_exact r s h)
 help_exact (Other r d) (Other s e) h = two_fields nat_exact side_exact Other r s d e h
-help_exact (Splice r c) (Splice s d) h = two_fields nat_exact nat_exact Splice r s c d h
-help_exact (DelClean r) (DelClean s) h = ap DelClean (nat_exact r s h)
-help_exact (Back r) (Back s) h = ap Back (nat_exact r s h)
-help_exact a b h = cc
+help_exact a b h = grind (arith, nat_tests)
 
 pub place_exact : IsExact place_eq.it
 place_exact (Search a) (Search b) h = ap Search (search_exact a b h)

@@ -1,30 +1,24 @@
 -- The initial memory has its numbers in range and keeps search order.
-use Rattle.std.specs.Prelude.{◌≡◌, ◌≢◌, ℕ, zero, suc, ◌+◌, ◌<◌, ◌≤◌, Bool, true, false, if◌then◌else◌, nat_lt, List, []}
+use Rattle.std.specs.Prelude.{◌≡◌, ◌≢◌, ℕ, zero, suc, ◌+◌, ◌<◌, ◌≤◌, List, []}
 use Rattle.std.specs.Prelude.{◌∷◌, ◌++◌, length, fold, refl, Some, IfSome, slice_get}
 use Rattle.std.specs.Option.{option_map}
-use Rattle.std.proofs.Common.{arith, ap, sym, ◌∙◌, ◌⊎◌, inl, inr, length-append}
+use Rattle.std.proofs.Common.{arith, ◌⊎◌, inl, inr, length-append}
 use Rattle.std.proofs.lemmas.List.{length-set}
 use Rattle.std.proofs.lemmas.List.Elements.{All-nil, All-from_recursion, All-weaker}
-use Rattle.std.proofs.lemmas.Option.{same_Some}
 use Rattle.sched_program.specs.Program.{IsUserKey, AreInitialKeys}
 use Rattle.tree_machine.specs.declared.search_order.Shape.TheVariants as shape
-use Rattle.tree_machine.specs.declared.search_order.Side.{Side}
+use Rattle.ellen.specs.Types.{Side, Node, Leaf, Internal, EllenMem}
 use Rattle.tree_machine.specs.declared.search_order.Side.TheVariants.{Left, Right}
 use Rattle.tree_machine.specs.Pairing.{IsAmong}
 use Rattle.tree_machine.specs.SearchOrder.{side_of, KeepsSearchOrder, end_of}
 use Rattle.tree_machine.proofs.Inserted.{key_of, over_child, put_over}
 use Rattle.tree_machine.specs.Laws.PairedRange.{ends_paired}
 use Rattle.tree_machine.specs.Laws.InitialKeys.{IsPutIn, stays_ordered}
-use Rattle.ellen.specs.declared.memory.UpdateWord.TheVariants.{Untouched}
-use Rattle.ellen.specs.declared.memory.Node.{Node}
-use Rattle.ellen.specs.declared.memory.Node.TheVariants.{Leaf, Internal}
-use Rattle.ellen.specs.declared.memory.EllenMem.{EllenMem}
 use Rattle.ellen.specs.Memory.{shape_in, shapes, key_in, key_at, with_child, internal_over, with_internal}
 use Rattle.ellen.specs.Initial.{empty_tree, put_in, initial_memory}
 use Rattle.ellen.specs.Range.{IsNodeIn, IsInRange, IsPlaceInRange}
-use Rattle.ellen.specs.Laws.PairedAccesses.{behind, with_pairs, with_children_paired, replace_node}
-use Rattle.ellen.specs.Laws.PairedAppends.{fresh_nodes, append_internal, internal_whole}
-use Rattle.ellen.specs.Laws.Pairs.{seen}
+use Rattle.ellen.specs.Laws.PairedAccesses.{seen, behind, with_pairs, with_children_paired, replace_node}
+use Rattle.ellen.specs.Laws.PairedAppends.{fresh_nodes, internal_grown}
 use Rattle.ellen.specs.Laws.Range.{self_paired, whole_in_range}
 
 -- ---- numbers in range
@@ -42,14 +36,14 @@ put_in_range memory k h =
     ends_paired P (shapes memory) (shapes memory) (seen P R memory memory self.2) k n 0 0 0 0 root root in
     let fresh = fresh_nodes memory memory in
     let Q = IsAmong (fresh ++ p.nodes) in
-    let more = append_internal p memory memory k end.leaf end.leaf self.2 ends.1 in
+    let more = internal_grown p memory memory k end.leaf end.leaf self.2 ends.1 in
     let grown = with_internal memory k end.leaf in
     let side = side_of k (key_at memory end.parent) in
     let parent = behind fresh p.nodes end.parent end.parent ends.0 in
-    let put = with_children_paired Q R side side _ _ _ _ refl (inl (refl, refl)) (more.nodes _ _ parent) in
+    let put = with_children_paired Q R side side _ _ _ _ refl (inl (refl, refl)) (more.paired.nodes _ _ parent) in
     (whole_in_range (with_pairs fresh [] p) (put_in memory k) (put_in memory k) [] []
-    (rw length-set (internal_whole p memory memory k end.leaf end.leaf self.2 ends.1 self.1.0), self.1.1)
-    (replace_node Q R grown grown end.parent end.parent _ _ more parent put) tt).0
+    (rw length-set (more.whole self.1.0), self.1.1)
+    (replace_node Q R grown grown end.parent end.parent _ _ more.paired parent put) tt).0
 
 fold_in_range : (keys : List ℕ) (memory : EllenMem) → IsInRange memory → IsInRange (fold put_in memory keys)
 fold_in_range [] memory h = h
@@ -78,26 +72,14 @@ key_is (Leaf k) = refl
 key_is (Internal k u l r) = refl
 
 -- the two new leaves and the node over them
-module _ (k j n : ℕ) where
-  abbrev more : List Node
-  more = Leaf k ∷ Leaf j ∷ internal_over k j n (n + 1) ∷ []
+abbrev more : ℕ → ℕ → ℕ → List Node
+more k j n = Leaf k ∷ Leaf j ∷ internal_over k j n (n + 1) ∷ []
 
-  over_is : (b : Bool)
-      → shape_in (if b then Internal j Untouched n (n + 1) else Internal k Untouched (n + 1) n)
-      ≡ (if b then shape.Internal j n (n + 1) else shape.Internal k (n + 1) n)
-  over_is true = refl
-  over_is false = refl
-
-  no_leaf : (b : Bool) (i : ℕ)
-      → (if b then shape.Internal j n (n + 1) else shape.Internal k (n + 1) n) ≡ shape.Leaf i → ⊥
-  no_leaf true i e = cc
-  no_leaf false i e = cc
-
-  new_leaves : (i x : ℕ) → option_map shape_in (slice_get more x) ≡ Some (shape.Leaf i) → (i ≡ k) ⊎ (i ≡ j)
-  new_leaves i zero e = inl cc
-  new_leaves i (suc zero) e = inr cc
-  new_leaves i (suc (suc zero)) e = absurd (no_leaf (nat_lt k j) i (sym (over_is (nat_lt k j)) ∙ same_Some _ _ e))
-  new_leaves i (suc (suc (suc x))) e = cc
+new_leaves : (k j n i x : ℕ) → option_map shape_in (slice_get (more k j n) x) ≡ Some (shape.Leaf i) → (i ≡ k) ⊎ (i ≡ j)
+new_leaves k j n i zero e = inl cc
+new_leaves k j n i (suc zero) e = inr cc
+new_leaves k j n i (suc (suc zero)) e = grind arith
+new_leaves k j n i (suc (suc (suc x))) e = cc
 
 puts : (memory : EllenMem) (k : ℕ) → IsPutIn (shapes memory) (shapes (put_in memory k)) k
     (end_of (shapes memory) k (length memory.nodes) 0 0)
@@ -108,7 +90,7 @@ puts memory k =
     put_over (Leaf 0) shape_in key_in with_child key_is child_is memory.nodes (more k j n) k end (n + 1) 2
     (record {
       own = refl;
-      over = ap Some (over_is k j n (nat_lt k j));
+      over = grind arith;
       beside = inr (1, refl, refl);
       leaves = new_leaves k j n;
     })

@@ -1,32 +1,25 @@
 -- Each kind of access keeps a pairing.
 use Rattle.std.specs.Prelude.{◌≡◌, ℕ, Bool, true, false, ◌&&◌, nat_eq, List, [], ◌∷◌, ◌++◌, Option, Some, None, refl}
-use Rattle.std.proofs.Common.{◌∙◌, ap, subst, sym, inr}
+use Rattle.std.proofs.Common.{◌∙◌, ap, arith, inr}
 use Rattle.std.proofs.lemmas.List.{length-set}
 use Rattle.tree_machine.specs.Cells.{IsPairedOrNone}
 use Rattle.tree_machine.specs.Pairing.{IsAmong, IsOneToOne, Pairing, Extends, AreOutcomesPaired, AreStepsPaired}
-use Rattle.tree_machine.proofs.FreshPairs.{choices_paired, same_number, within_set, paired_set}
+use Rattle.std.specs.Option.{option_map}
+use Rattle.tree_machine.specs.Laws.SearchOrderPairs.{AreShapesPaired}
+use Rattle.tree_machine.proofs.FreshPairs.{paired_as, choices_paired, same_number, within_set, paired_set}
 use Rattle.tree_machine.specs.Laws.PairedRange.{IsCovered}
 use Rattle.tree_machine.specs.SearchOrder.{side_of}
-use Rattle.tree_machine.specs.declared.machine.Outcome.{Outcome}
-use Rattle.tree_machine.specs.declared.machine.Outcome.TheVariants.{Astray}
-use Rattle.tree_machine.specs.declared.search_order.Side.{Side}
+use Rattle.ellen.specs.Types.{Outcome, Astray, Side, UpdateWord, Node, Leaf, InsertRecord, DeleteRecord, Record, Ins}
+use Rattle.ellen.specs.Types.{Del, EllenMem, EllenLoc}
 use Rattle.tree_machine.specs.declared.search_order.Side.TheVariants as side
-use Rattle.ellen.specs.declared.memory.UpdateWord.{UpdateWord}
 use Rattle.ellen.specs.declared.memory.UpdateWord.TheVariants as word
-use Rattle.ellen.specs.declared.memory.Node.{Node}
-use Rattle.ellen.specs.declared.memory.Node.TheVariants.{Leaf, Internal}
-use Rattle.ellen.specs.declared.memory.InsertRecord.{InsertRecord}
-use Rattle.ellen.specs.declared.memory.DeleteRecord.{DeleteRecord}
-use Rattle.ellen.specs.declared.memory.Record.{Record}
-use Rattle.ellen.specs.declared.memory.Record.TheVariants.{Ins, Del}
-use Rattle.ellen.specs.declared.memory.EllenMem.{EllenMem}
-use Rattle.ellen.specs.declared.place.EllenLoc.{EllenLoc}
-use Rattle.ellen.specs.Memory.{key_in, update_of, child_on, with_update, with_child, is_word, node_at, key_at, set_node}
-use Rattle.ellen.specs.Memory.{insert_of, delete_of}
+use Rattle.ellen.specs.Memory.{shape_in, shapes, key_in, update_of, child_on, with_update, with_child, is_word, node_at}
+use Rattle.ellen.specs.Memory.{key_at, set_node}
+use Rattle.ellen.specs.Memory.{shape_in, shapes, insert_of, delete_of}
 use Rattle.ellen.specs.Table.{After, found, read_update, read_child, exchange_update, exchange_child}
 use Rattle.ellen.specs.Pairs.{AreBoth, AreWordsPaired, AreNodesPaired, AreRecordsPaired, AreMemoriesPaired, ellen_pairs}
 use Rattle.ellen.specs.Parts.{word_number, word_record}
-use Rattle.ellen.specs.Laws.Parts.{AreFoundPaired, word_parts}
+use Rattle.ellen.specs.Laws.Parts.{AreFoundPaired, word_kind, word_named}
 
 -- ---- equal tests
 
@@ -40,30 +33,19 @@ are_same _ _ = false
 word_is : (u f : UpdateWord)
     → is_word u f ≡ (nat_eq (word_number u) (word_number f) && are_same (word_record u) (word_record f))
 word_is word.Untouched word.Untouched = refl
-word_is (word.Clean r) (word.Clean s) = refl
-word_is (word.InsertFlag r) (word.InsertFlag s) = refl
-word_is (word.DeleteFlag r) (word.DeleteFlag s) = refl
-word_is (word.Mark r) (word.Mark s) = refl
-word_is _ _ = refl
+word_is u f = grind arith
 
 module _ (R : ℕ → ℕ → Type 0) (one : IsOneToOne R) where
   records_compared : (a b c d : Option ℕ) → IsPairedOrNone R a b → IsPairedOrNone R c d → are_same a c ≡ are_same b d
   records_compared None None None None p q = refl
-  records_compared None None (Some t) (Some w) p q = refl
-  records_compared (Some r) (Some s) None None p q = refl
   records_compared (Some r) (Some s) (Some t) (Some w) p q = same_number R one r s t w p q
-  records_compared None (Some s) c d p q = absurd p
-  records_compared (Some r) None c d p q = absurd p
-  records_compared _ _ None (Some w) p q = absurd q
-  records_compared _ _ (Some t) None p q = absurd q
+  records_compared a b c d p q = search arith
 
   -- two exchanges that compare with paired update words succeed together
   pub words_compared : (u v f g : UpdateWord) → AreWordsPaired R u v → AreWordsPaired R f g → is_word u f ≡ is_word v g
   words_compared u v f g p q =
-      let a = (word_parts R R u v).0 p in
-      let b = (word_parts R R f g).0 q in
-      let same = records_compared _ _ _ _ a.1 b.1 in
-      word_is u f ∙ ((λ i. nat_eq (a.0 i) (b.0 i) && same i) ∙ sym (word_is v g))
+      let same = records_compared _ _ _ _ (word_named R R u v p) (word_named R R f g q) in
+      cc (word_is u f, word_is v g, word_kind R R u v p, word_kind R R f g q, same)
 
 -- ---- paired nodes have paired fields
 
@@ -71,40 +53,43 @@ module _ (P R : ℕ → ℕ → Type 0) where
   -- paired nodes have one key
   pub key_paired : (a b : Node) → AreNodesPaired P R a b → key_in a ≡ key_in b
   key_paired (Leaf k) (Leaf j) h = h
-  key_paired (Internal k u l r) (Internal j v m s) h = h.0
-  key_paired _ _ h = absurd h
+  key_paired a b h = search arith
 
   update_paired : (a b : Node) → AreNodesPaired P R a b → AreBoth (AreWordsPaired R) (update_of a) (update_of b)
   update_paired (Leaf k) (Leaf j) h = tt
-  update_paired (Internal k u l r) (Internal j v m s) h = h.1
-  update_paired _ _ h = absurd h
+  update_paired a b h = search arith
 
   child_paired : (s : Side) (a b : Node) → AreNodesPaired P R a b → AreBoth P (child_on s a) (child_on s b)
-  child_paired s (Leaf k) (Leaf j) h = tt
-  child_paired side.Left (Internal k u l r) (Internal j v m s) h = h.2
-  child_paired side.Right (Internal k u l r) (Internal j v m s) h = h.3
-  child_paired _ _ _ h = absurd h
+  child_paired side.Left (Leaf k) (Leaf j) h = tt
+  child_paired s a b h = search arith
 
   children_paired : (c d : Side) (a b : Node) → c ≡ d → AreNodesPaired P R a b → AreBoth P (child_on c a) (child_on d b)
-  children_paired c d a b e h = subst (λ s. AreBoth P (child_on c a) (child_on s b)) e (child_paired c a b h)
+  children_paired c d a b e h = rw (← e) (child_paired c a b h)
 
   with_update_paired : (u v : UpdateWord) (a b : Node) → AreWordsPaired R u v → AreNodesPaired P R a b
       → AreNodesPaired P R (with_update u a) (with_update v b)
   with_update_paired u v (Leaf k) (Leaf j) g h = h
-  with_update_paired u v (Internal k w l r) (Internal j z m s) g h = (h.0, g, h.2, h.3)
-  with_update_paired u v _ _ g h = absurd h
+  with_update_paired u v a b g h = search arith
 
   with_child_paired : (s : Side) (x y : ℕ) (a b : Node) → P x y → AreNodesPaired P R a b
       → AreNodesPaired P R (with_child s x a) (with_child s y b)
-  with_child_paired s x y (Leaf k) (Leaf j) p h = h
-  with_child_paired side.Left x y (Internal k u l r) (Internal j v m s) p h = (h.0, h.1, p, h.3)
-  with_child_paired side.Right x y (Internal k u l r) (Internal j v m s) p h = (h.0, h.1, h.2, p)
-  with_child_paired _ x y _ _ p h = absurd h
+  with_child_paired side.Left x y (Leaf k) (Leaf j) p h = h
+  with_child_paired s x y a b p h = search arith
 
   pub with_children_paired : (c d : Side) (x y : ℕ) (a b : Node) → c ≡ d → P x y → AreNodesPaired P R a b
       → AreNodesPaired P R (with_child c x a) (with_child d y b)
-  with_children_paired c d x y a b e p h =
-      subst (λ s. AreNodesPaired P R (with_child c x a) (with_child s y b)) e (with_child_paired c x y a b p h)
+  with_children_paired c d x y a b e p h = rw (← e) (with_child_paired c x y a b p h)
+
+  shapes_paired : (a b : Node) → AreNodesPaired P R a b → AreShapesPaired P (Some (shape_in a)) (Some (shape_in b))
+  shapes_paired (Leaf k) (Leaf j) h = h
+  shapes_paired a b h = search arith
+
+  -- paired nodes are seen alike
+  pub seen : (memory other : EllenMem) → AreMemoriesPaired P R memory other → (x y : ℕ) → P x y
+      → AreShapesPaired P (shapes memory x) (shapes other y)
+  seen memory other h x y p =
+      paired_as (AreFoundPaired P R) (λ a b. AreShapesPaired P (option_map shape_in a) (option_map shape_in b))
+      memory.nodes other.nodes x y (h.nodes_in_range x y p) shapes_paired (h.nodes x y p)
 
 -- ---- a node is replaced on both sides
 
@@ -175,15 +160,14 @@ module _ (p : Pairing) (m o : EllenMem) (h : ellen_pairs.memories p m o) where
       → ((u v : UpdateWord) → AreWordsPaired R u v → Outcomes (f u) (g v))
       → Steps (read_update m x f) (read_update o y g)
   read_update_keeps x y f g q k =
-      found_keeps (AreWordsPaired R) (update_of (node_at m x)) (update_of (node_at o y)) _ _
-      (update_paired P R _ _ (h.nodes x y q)) (λ u v w. stay (f u) (g v) (k u v w))
+      found_keeps (AreWordsPaired R) _ _ _ _ (update_paired P R _ _ (h.nodes x y q))
+      (λ u v w. stay (f u) (g v) (k u v w))
 
   -- a read of a child
   pub read_child_keeps : (x y : ℕ) (c d : Side) (f g : ℕ → Outcome EllenLoc) → P x y → c ≡ d
       → ((a b : ℕ) → P a b → Outcomes (f a) (g b)) → Steps (read_child m x c f) (read_child o y d g)
   read_child_keeps x y c d f g q e k =
-      found_keeps P (child_on c (node_at m x)) (child_on d (node_at o y)) _ _
-      (children_paired P R c d _ _ e (h.nodes x y q)) (λ a b w. stay (f a) (g b) (k a b w))
+      found_keeps P _ _ _ _ (children_paired P R c d _ _ e (h.nodes x y q)) (λ a b w. stay (f a) (g b) (k a b w))
 
   -- an exchange, where a and b are the memories with what is new, which these pairs of nodes and of records pair
   module _ (nodes records : List (ℕ × ℕ)) (a b : EllenMem)
@@ -220,8 +204,7 @@ module _ (p : Pairing) (m o : EllenMem) (h : ellen_pairs.memories p m o) where
         Later s t → ((u v : UpdateWord) → AreWordsPaired R u v → Outcomes (k u) (l v))
         → Steps (exchange_update m x e d a s k) (exchange_update o y f g b t l)
     exchange_update_keeps x y e f d g s t k l q same new won lost =
-        found_keeps (AreWordsPaired R) (update_of (node_at m x)) (update_of (node_at o y)) _ _
-        (update_paired P R _ _ (h.nodes x y q))
+        found_keeps (AreWordsPaired R) _ _ _ _ (update_paired P R _ _ (h.nodes x y q))
         (λ u v w. choices_paired Steps (is_word u e) (is_word v f) _ _ _ _
         (words_compared R h.records_one_to_one u v e f w same)
         (written x y _ _ s t q (with_update_paired Q S d g _ _ new) won) (stay (k u) (l v) (lost u v w)))
@@ -233,8 +216,7 @@ module _ (p : Pairing) (m o : EllenMem) (h : ellen_pairs.memories p m o) where
         let sides : side_of (key_at a n) (key_at m x) ≡ side_of (key_at b i) (key_at o y) =
         ap (λ j. side_of j (key_at m x)) (key_paired Q S _ _ (after.nodes n i new))
         ∙ ap (side_of (key_at b i)) (key_paired P R _ _ (h.nodes x y q)) in
-        found_keeps P (child_on _ (node_at m x)) (child_on _ (node_at o y)) _ _
-        (children_paired P R _ _ _ _ sides (h.nodes x y q))
+        found_keeps P _ _ _ _ (children_paired P R _ _ _ _ sides (h.nodes x y q))
         (λ u v w. choices_paired Steps (nat_eq u c) (nat_eq v d) _ _ _ _
         (same_number P h.nodes_one_to_one u v c d w same)
         (written x y _ _ s t q (with_children_paired Q S _ _ n i _ _ sides new) won) (stay k l lost))

@@ -2,35 +2,19 @@
 use Rattle.std.specs.Prelude.{◌≡◌, ℕ, Bool, true, false, nat_eq, List, [], ◌∷◌, ◌++◌, length, Option, Some, None}
 use Rattle.std.specs.Prelude.{refl, if◌then◌else◌}
 use Rattle.std.specs.List.{AllZip}
-use Rattle.std.proofs.Common.{ap, subst, inl, inr}
+use Rattle.std.proofs.Common.{ap, arith, inl, inr}
 use Rattle.sched_program.specs.Program.{key_of}
-use Rattle.sched_program.specs.declared.operation.Op.{Op}
+use Rattle.ellen.specs.Types.{Op, Outcome, Ellen, UpdateWord, Node, Leaf, Internal, Record, Ins, Del, EllenMem, Above}
+use Rattle.ellen.specs.Types.{Base, Resume, SearchLoc, Update, Child, IFlag, InsOnly, DFlag, HelpLoc, InsChild}
+use Rattle.ellen.specs.Types.{InsClean, Mark, Right, Other, Splice, DelClean, Back, EllenLoc, Search, Help}
 use Rattle.sched_program.specs.declared.operation.Op.TheVariants.{Insert, Delete, Find}
 use Rattle.tree_machine.specs.Pairing.{IsAmong, Pairing, AreOutcomesPaired}
 use Rattle.tree_machine.specs.Laws.PairedRange.{fresh_covers}
 use Rattle.tree_machine.specs.SearchOrder.{side_of}
-use Rattle.tree_machine.specs.declared.machine.Outcome.{Outcome}
 use Rattle.tree_machine.specs.declared.search_order.Side.TheVariants as side
-use Rattle.ellen.specs.declared.memory.UpdateWord.{UpdateWord}
 use Rattle.ellen.specs.declared.memory.UpdateWord.TheVariants as word
-use Rattle.ellen.specs.declared.memory.Node.{Node}
-use Rattle.ellen.specs.declared.memory.Node.TheVariants.{Leaf, Internal}
-use Rattle.ellen.specs.declared.memory.Record.{Record}
-use Rattle.ellen.specs.declared.memory.Record.TheVariants.{Ins, Del}
-use Rattle.ellen.specs.declared.memory.EllenMem.{EllenMem}
-use Rattle.ellen.specs.declared.place.Above.{Above}
-use Rattle.ellen.specs.declared.place.Base.{Base}
 use Rattle.ellen.specs.declared.place.Base.TheVariants as base
-use Rattle.ellen.specs.declared.place.Resume.{Resume}
-use Rattle.ellen.specs.declared.place.SearchLoc.{SearchLoc}
-use Rattle.ellen.specs.declared.place.SearchLoc.TheVariants.{Update, Child, IFlag, InsOnly, DFlag}
-use Rattle.ellen.specs.declared.place.HelpLoc.{HelpLoc}
-use Rattle.ellen.specs.declared.place.HelpLoc.TheVariants.{InsChild, InsClean, Mark, Right, Other, Splice, DelClean}
-use Rattle.ellen.specs.declared.place.HelpLoc.TheVariants.{Back}
-use Rattle.ellen.specs.declared.place.EllenLoc.{EllenLoc}
-use Rattle.ellen.specs.declared.place.EllenLoc.TheVariants.{Search, Help}
-use Rattle.ellen.specs.declared.machine.Ellen.{Ellen}
-use Rattle.ellen.specs.Memory.{is_word, is_clean, with_internal, new_internal}
+use Rattle.ellen.specs.Memory.{is_word, is_clean, new_internal}
 use Rattle.ellen.specs.Table.{with_base, settled, top_taken, unwound, returned, marking, help, help_first}
 use Rattle.ellen.specs.Table.{flagging, decide, arrived, search_act, unflagged, help_act, act}
 use Rattle.ellen.specs.Pairs.{AreBoth, AreWordsPaired, AreNodesPaired, AreAbovesPaired, AreSearchesPaired}
@@ -39,8 +23,7 @@ use Rattle.tree_machine.proofs.FreshPairs.{choices_paired, same_number}
 use Rattle.ellen.specs.Laws.PairedAccesses.{words_compared, key_paired, with_pairs, read_update_keeps}
 use Rattle.ellen.specs.Laws.PairedAccesses.{read_child_keeps, exchange_update_keeps, exchange_child_keeps}
 use Rattle.ellen.specs.Laws.PairedAccesses.{insert_keeps, delete_keeps, Steps}
-use Rattle.ellen.specs.Laws.PairedAppends.{records_weaker, append_record, append_internal, fresh_nodes}
-use Rattle.ellen.specs.Laws.PairedAppends.{internal_whole}
+use Rattle.ellen.specs.Laws.PairedAppends.{records_weaker, append_record, fresh_nodes, internal_grown}
 
 -- ---- where operations go, from paired places
 
@@ -75,8 +58,7 @@ module _ (p : Pairing) (root : IsAmong p.nodes 0 0) where
   returned_paired : (done : Bool) (y z : Resume) → AreResumesPaired P R y z
       → Outcomes (returned done y) (returned done z)
   returned_paired done y z k =
-      subst (λ b. Outcomes (unwound done y.base y.stack) (unwound done b z.stack)) k.1
-      (unwound_paired done y.base y.stack z.stack k.0)
+      rw (← k.1) (unwound_paired done y.base y.stack z.stack k.0)
 
   stacks_paired : (r s : ℕ) (y z : List ℕ) → R r s → AllZip R y z → AllZip R (y ++ r ∷ []) (z ++ s ∷ [])
   stacks_paired r s [] [] h k = (h, tt)
@@ -85,7 +67,7 @@ module _ (p : Pairing) (root : IsAmong p.nodes 0 0) where
 
   marking_paired : (machine : Ellen) (r s : ℕ) → R r s → AreHelpsPaired P R (marking machine r) (marking machine s)
   marking_paired machine r s h =
-      choices_paired (AreHelpsPaired P R) machine.mark machine.mark (Mark r) (Right r) (Mark s) (Right s) refl h h
+      choices_paired (AreHelpsPaired P R) machine.mark machine.mark _ _ _ _ refl h h
 
   help_paired : (machine : Ellen) (u v : UpdateWord) (y z : Resume) → AreWordsPaired R u v → AreResumesPaired P R y z
       → Outcomes (help machine u y) (help machine v z)
@@ -102,17 +84,12 @@ module _ (p : Pairing) (root : IsAmong p.nodes 0 0) where
 
   clean_paired : (u v : UpdateWord) → AreWordsPaired R u v → is_clean u ≡ is_clean v
   clean_paired word.Untouched word.Untouched h = refl
-  clean_paired (word.Clean r) (word.Clean s) h = refl
-  clean_paired (word.InsertFlag r) (word.InsertFlag s) h = refl
-  clean_paired (word.DeleteFlag r) (word.DeleteFlag s) h = refl
-  clean_paired (word.Mark r) (word.Mark s) h = refl
-  clean_paired _ _ h = absurd h
+  clean_paired u v h = search arith
 
   flagging_paired : (machine : Ellen) (x y : Above) (l n : ℕ) → AreAbovesPaired P R x y → P l n
       → AreSearchesPaired P R (flagging machine x l) (flagging machine y n)
   flagging_paired machine x y l n h k =
-      choices_paired (AreSearchesPaired P R) machine.iflag machine.iflag (IFlag x.node x.update l) (InsOnly x.node l)
-      (IFlag y.node y.update n) (InsOnly y.node n) refl (h.0, h.1, k) (h.0, k)
+      choices_paired (AreSearchesPaired P R) machine.iflag machine.iflag _ _ _ _ refl (h.0, h.1, k) (h.0, k)
 
   decide_paired : (machine : Ellen) (op : Op) (a b : Option Above) (x y : Above) (l n j i : ℕ)
       → AreBoth (AreAbovesPaired P R) a b → AreAbovesPaired P R x y → P l n → j ≡ i →
@@ -161,22 +138,18 @@ module _ (machine : Ellen) (op : Op) (p : Pairing) (m o : EllenMem) (h : ellen_p
       (λ c d w. arrived_paired p h.root machine op a b _ _ c d _ _ g.0 (g.1, g.2) w (h.nodes c d w))
   -- the exchange of an insert's flag: three nodes and a record are new
   search_keeps (IFlag x u l) (IFlag y v n) g =
+      let grown = internal_grown p m o (key_of op) l n h g.2 in
+      let left : Record = Ins (record { parent = x; leaf = l; new = new_internal m }) in
+      let right : Record = Ins (record { parent = y; leaf = n; new = new_internal o }) in
       exchange_update_keeps p m o h (fresh_nodes m o) fresh_record _ _
-      (append_record (fresh_nodes m o ++ p.nodes) p.records (with_internal m (key_of op) l)
-      (with_internal o (key_of op) n)
-      (Ins (record { parent = x; leaf = l; new = new_internal m }))
-      (Ins (record { parent = y; leaf = n; new = new_internal o }))
-      (append_internal p m o (key_of op) l n h g.2) (inr (inr (inr g.0)), inr (inr (inr g.2)), inl (refl, refl)))
-      (λ w. (
-        internal_whole p m o (key_of op) l n h g.2 w.0,
-        fresh_covers p.records m.records (Ins (record { parent = x; leaf = l; new = new_internal m }))
-            (length o.records) w.1,
-      ))
+      (append_record (fresh_nodes m o ++ p.nodes) p.records _ _ left right grown.paired
+      (inr (inr (inr g.0)), inr (inr (inr g.2)), inl (refl, refl)))
+      (λ w. (grown.whole w.0, fresh_covers p.records m.records left (length o.records) w.1))
       x y u v _ _ _ _ _ _ g.0 g.1 (inl (refl, refl)) (inl (refl, refl), (tt, refl))
       (help_first_paired p h.root machine)
   search_keeps (InsOnly x l) (InsOnly y n) g =
-      exchange_child_keeps p m o h (fresh_nodes m o) [] _ _ (append_internal p m o (key_of op) l n h g.1)
-      (λ w. (internal_whole p m o (key_of op) l n h g.1 w.0, w.1))
+      let grown = internal_grown p m o (key_of op) l n h g.1 in
+      exchange_child_keeps p m o h (fresh_nodes m o) [] _ _ grown.paired (λ w. (grown.whole w.0, w.1))
       x y l n (new_internal m) (new_internal o) _ _ _ _ g.0 g.1 (inl (refl, refl)) refl (tt, h.root)
   -- the exchange of a delete's flag: a record is new, which the grandparent's update word names
   search_keeps (DFlag a x u l) (DFlag b y v n) g =

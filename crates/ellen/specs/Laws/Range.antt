@@ -3,15 +3,12 @@
 use Rattle.std.specs.Prelude.{List, length, Option, IfSome, All}
 use Rattle.std.specs.List.{AllZip}
 use Rattle.std.proofs.lemmas.List.{length-map}
-use Rattle.sched_program.specs.declared.operation.Op.{Op}
+use Rattle.ellen.specs.Types.{Op, Ellen, EllenMem, EllenLoc}
 use Rattle.tree_machine.specs.Pairing.{Pairing, IsAmong, AreHeldPaired}
 use Rattle.tree_machine.specs.Parts.{IsPartsPairing}
 use Rattle.tree_machine.specs.Rules.{IsOutcomeInRange}
 use Rattle.tree_machine.specs.Laws.PairedRange.{selves, selves_cover, self_pairing, paired_in_range}
 use Rattle.tree_machine.specs.Laws.PairedRange.{act_kept as kept_by_pairs}
-use Rattle.ellen.specs.declared.machine.Ellen.{Ellen}
-use Rattle.ellen.specs.declared.memory.EllenMem.{EllenMem}
-use Rattle.ellen.specs.declared.place.EllenLoc.{EllenLoc}
 use Rattle.ellen.specs.EllenRules.{ellen_rules}
 use Rattle.ellen.specs.Pairs.{ellen_pairs}
 use Rattle.ellen.specs.Parts.{node_part, record_part, ellen_parts}
@@ -20,8 +17,7 @@ use Rattle.ellen.specs.Table.{act}
 use Rattle.ellen.specs.Laws.PairedAccesses.{IsWhole}
 use Rattle.ellen.specs.Laws.PairedAppends.{places_weaker}
 use Rattle.ellen.specs.Laws.PairedSteps.{act_keeps}
-use Rattle.ellen.specs.Laws.Parts.{pairing_to, pairing_from}
-use Rattle.ellen.specs.Laws.PartsRange.{parts_in_range, values_in_range}
+use Rattle.ellen.specs.Laws.Parts.{pairing_to, pairing_from, parts_in_range, values_in_range}
 
 abbrev ArePlacesIn : EllenMem → List (Option EllenLoc) → Type 0
 ArePlacesIn memory held = All (λ place. IfSome place (IsPlaceInRange memory)) held

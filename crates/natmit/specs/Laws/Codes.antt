@@ -1,27 +1,20 @@
--- The parts of a memory and of the places held determine both.
+-- Equal parts are of equal memories and places. So codes tell what they are of, and forms are exact.
 use Rattle.std.specs.Prelude.{◌≡◌, List, Option, Some, None, refl}
-use Rattle.std.proofs.Common.{ap}
+use Rattle.std.proofs.Common.{ap, arith}
 use Rattle.std.proofs.lemmas.List.{length-map}
 use Rattle.tree_machine.specs.Pairing.{AreHeldPaired}
 use Rattle.tree_machine.specs.FormCode.{TellsWholly, cut_code}
 use Rattle.tree_machine.specs.Flat.{all_front}
-use Rattle.tree_machine.specs.Laws.PartForms.{parts_tell_wholly}
+use Rattle.tree_machine.specs.Laws.PartForms.{parts_tell_wholly, part_forms_exact, parts_decode}
+use Rattle.tree_machine.specs.Rules.{AreFormsExact, DecodesForms}
 use Rattle.tree_machine.proofs.ValueParts.{Same, values_equal}
-use Rattle.tree_machine.specs.declared.front.Front.{Front}
-use Rattle.natmit.specs.declared.memory.Word.{Word}
-use Rattle.natmit.specs.declared.memory.Node.{Node}
-use Rattle.natmit.specs.declared.memory.Node.TheVariants.{Leaf, Internal}
-use Rattle.natmit.specs.declared.memory.NatMitMem.{NatMitMem}
-use Rattle.natmit.specs.declared.place.Mode.{Mode}
-use Rattle.natmit.specs.declared.place.Mode.TheVariants.{Plain, Owner}
-use Rattle.natmit.specs.declared.place.Path.{Path}
-use Rattle.natmit.specs.declared.place.NatMitLoc.{NatMitLoc}
-use Rattle.natmit.specs.declared.place.NatMitLoc.TheVariants.{Begin, Down, Put, Flag, Look, CleanRead, Tag, Sibling}
-use Rattle.natmit.specs.declared.place.NatMitLoc.TheVariants.{Swing}
+use Rattle.natmit.specs.Types.{Front, NatMit, Word, Node, Leaf, Internal, NatMitMem, Mode, Plain, Path}
+use Rattle.natmit.specs.Types.{NatMitLoc, Begin, Down, Put, Flag, Look, CleanRead, Tag, Sibling, Swing}
 use Rattle.natmit.specs.Pairs.{AreWordsPaired, AreNodesPaired, AreModesPaired, ArePathsPaired, ArePlacesPaired}
-use Rattle.natmit.specs.Parts.{node_part, held_part, natmit_parts, natmit_code}
-use Rattle.natmit.specs.Parts.{natmit_front_code, natmit_behind_code}
-use Rattle.natmit.specs.Laws.Parts.{node_parts, held_parts}
+use Rattle.natmit.specs.Parts.{node_part, held_part, natmit_parts, natmit_code, natmit_form, natmit_front_code}
+use Rattle.natmit.specs.Parts.{natmit_behind_code}
+use Rattle.natmit.specs.NatMitRules.{natmit_rules}
+use Rattle.natmit.specs.Laws.Parts.{node_parts, held_parts, parts_exactly, parts_in_range, values_in_range}
 
 -- ---- what equality pairs is equal
 
@@ -38,8 +31,7 @@ nodes_equal _ _ h = absurd h
 
 modes_equal : (m o : Mode) → AreModesPaired Same m o → m ≡ o
 modes_equal Plain Plain h = refl
-modes_equal (Owner x) (Owner y) h = ap Owner h
-modes_equal _ _ h = absurd h
+modes_equal m o h = search arith
 
 paths_equal : (p q : Path) → ArePathsPaired Same p q → p ≡ q
 paths_equal p q h = λ i. record { ancestor = h.0 i; successor = h.1 i; parent = h.2 i }
@@ -83,3 +75,16 @@ natmit_tells = parts_tell_wholly natmit_parts (λ memory held. length-map held h
 pub natmit_cut : (memory : NatMitMem) (held : List (Option NatMitLoc)) → (front : Front)
     × (natmit_code memory held ≡ cut_code natmit_front_code natmit_behind_code front memory held)
 natmit_cut memory held = (all_front (natmit_parts memory held), refl)
+
+-- two forms are equal exactly if memories and places are alike
+pub natmit_forms : (machine : NatMit) → AreFormsExact (natmit_rules machine) natmit_form
+natmit_forms machine =
+    part_forms_exact natmit_parts (λ memory held. length-map held held_part) (natmit_rules machine) 2 parts_in_range
+    parts_exactly
+
+-- what the bytes of a form decode to is alike
+pub natmit_decodes : (machine : NatMit) (front : Front) → DecodesForms (natmit_rules machine) natmit_form (λ form. form)
+    (cut_code natmit_front_code natmit_behind_code front)
+natmit_decodes machine =
+    parts_decode natmit_parts (λ memory held. length-map held held_part) (natmit_rules machine) 2 parts_in_range
+    parts_exactly values_in_range

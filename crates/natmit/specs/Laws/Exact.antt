@@ -1,8 +1,9 @@
 -- Nodes, places and memories are one and the same where they compare as equal.
 use Rattle.std.specs.Prelude.{◌≡◌, refl}
-use Rattle.std.proofs.Common.{ap}
+use Rattle.std.proofs.Common.{ap, arith}
+use Rattle.std.proofs.lemmas.Bool.Decides.{nat_tests}
 use Rattle.sched_program.specs.Exact.{IsExact}
-use Rattle.sched_program.specs.Laws.Exact.{nat_exact, bool_exact, list_exact, both}
+use Rattle.sched_program.specs.Laws.Exact.{nat_exact, bool_exact, list_exact}
 use Rattle.tree_machine.specs.Laws.FieldsExact.{two_fields, three_fields, four_fields, five_fields}
 use Rattle.tree_machine.specs.Laws.SideExact.{side_exact}
 use Rattle.natmit.specs.contracts.memory.WordPartialEq.TheImpl.{eq-value as word_eq}
@@ -12,20 +13,14 @@ use Rattle.natmit.specs.contracts.place.ModePartialEq.TheImpl.{eq-value as mode_
 use Rattle.natmit.specs.contracts.place.PathPartialEq.TheImpl.{eq-value as path_eq}
 use Rattle.natmit.specs.contracts.place.NatMitLocPartialEq.TheImpl.{eq-value as place_eq}
 use Rattle.natmit.specs.contracts.machine.NatMitPartialEq.TheImpl.{eq-value as machine_eq}
-use Rattle.natmit.specs.declared.memory.Node.TheVariants.{Leaf, Internal}
-use Rattle.natmit.specs.declared.place.Mode.TheVariants.{Plain, Owner}
-use Rattle.natmit.specs.declared.place.NatMitLoc.TheVariants.{Begin, Down, Put, Flag, Look, CleanRead, Tag, Sibling}
-use Rattle.natmit.specs.declared.place.NatMitLoc.TheVariants.{Swing}
+use Rattle.natmit.specs.Types.{Leaf, Internal, Plain, Begin, Down, Put, Flag, Look, CleanRead, Tag, Sibling}
+use Rattle.natmit.specs.Types.{Swing}
 use Rattle.natmit.specs.Table.{path_of}
 
 pub word_exact : IsExact word_eq.it
 word_exact a b h =
-    let first = both _ _ h in
-    let second = both _ _ first.1 in
-    let flag : a.flag ≡ b.flag = bool_exact a.flag b.flag first.0 in
-    let tag : a.tag ≡ b.tag = bool_exact a.tag b.tag second.0 in
-    let node : a.node ≡ b.node = nat_exact a.node b.node second.1 in
-    λ i. record { flag = flag i; tag = tag i; node = node i }
+    three_fields bool_exact bool_exact nat_exact (λ flag tag node. record { flag = flag; tag = tag; node = node })
+    a.flag b.flag a.tag b.tag a.node b.node h
 
 pub node_exact : IsExact node_eq.it
 node_exact (Leaf k) (Leaf j) h = ap Leaf (nat_exact k j h)
@@ -38,9 +33,7 @@ memory_exact a b h = let nodes : a.nodes ≡ b.nodes = list_exact node_exact a.n
 
 pub mode_exact : IsExact mode_eq.it
 mode_exact Plain Plain h = refl
-mode_exact Plain (Owner o) h = cc
-mode_exact (Owner o) Plain h = cc
-mode_exact (Owner o) (Owner q) h = ap Owner (nat_exact o q h)
+mode_exact a b h = grind (arith, nat_tests)
 
 pub machine_exact : IsExact machine_eq.it
 machine_exact a b h = let tag : a.tag ≡ b.tag = bool_exact a.tag b.tag h in λ i. record { tag = tag i }

@@ -1,30 +1,24 @@
 -- The initial memory has its numbers in range, and keeps search order.
-use Rattle.std.specs.Prelude.{◌≡◌, ◌≢◌, ℕ, zero, suc, ◌<◌, ◌≤◌, Bool, true, false, nat_lt, if◌then◌else◌, List, []}
+use Rattle.std.specs.Prelude.{◌≡◌, ◌≢◌, ℕ, zero, suc, ◌<◌, ◌≤◌, List, []}
 use Rattle.std.specs.Prelude.{◌∷◌, length, fold, refl, Some, IfSome, slice_get}
 use Rattle.std.specs.Option.{option_map}
-use Rattle.std.proofs.Common.{arith, sym, ◌∙◌, ap, ◌⊎◌, inl, length-append}
+use Rattle.std.proofs.Common.{arith, ◌⊎◌, inl, length-append}
 use Rattle.std.proofs.lemmas.List.{length-set}
 use Rattle.std.proofs.lemmas.List.Elements.{All-nil, All-from_recursion, All-weaker}
-use Rattle.std.proofs.lemmas.Option.{same_Some}
 use Rattle.sched_program.specs.Program.{IsUserKey, AreInitialKeys}
-use Rattle.tree_machine.specs.declared.search_order.Side.{Side}
-use Rattle.tree_machine.specs.declared.search_order.Side.TheVariants.{Left, Right}
+use Rattle.natmit.specs.Types.{Side, Left, Right, Node, Leaf, Internal, NatMitMem}
 use Rattle.tree_machine.specs.declared.search_order.Shape.TheVariants as shape
 use Rattle.tree_machine.specs.Pairing.{IsAmong}
 use Rattle.tree_machine.specs.SearchOrder.{KeepsSearchOrder, end_of}
 use Rattle.tree_machine.proofs.Inserted.{key_of, over_child, put_over}
 use Rattle.tree_machine.specs.Laws.PairedRange.{ends_paired}
 use Rattle.tree_machine.specs.Laws.InitialKeys.{IsPutIn, stays_ordered}
-use Rattle.natmit.specs.declared.memory.Node.{Node}
-use Rattle.natmit.specs.declared.memory.Node.TheVariants.{Leaf, Internal}
-use Rattle.natmit.specs.declared.memory.NatMitMem.{NatMitMem}
 use Rattle.natmit.specs.Memory.{plain, key_in, shape_in, shapes, with_word, key_at, side_at, internal_over}
 use Rattle.natmit.specs.Memory.{with_internal, new_internal}
 use Rattle.natmit.specs.Initial.{empty_tree, put_in, initial_memory}
 use Rattle.natmit.specs.Range.{IsNodeIn, IsInRange, IsPlaceInRange}
-use Rattle.natmit.specs.Laws.PairedAccesses.{set_word_paired}
+use Rattle.natmit.specs.Laws.PairedAccesses.{seen, set_word_paired}
 use Rattle.natmit.specs.Laws.PairedAppends.{with_two_new, internals_paired, two_new}
-use Rattle.natmit.specs.Laws.Pairs.{seen}
 use Rattle.natmit.specs.Laws.Range.{self_paired, whole_in_range}
 
 -- ---- search order
@@ -38,23 +32,12 @@ key_is : (node : Node) → key_in node ≡ key_of (shape_in node)
 key_is (Leaf k) = refl
 key_is (Internal k l r) = refl
 
--- the new leaf and the node over it and over leaf l
-module _ (k j n l : ℕ) where
-  over_is : (b : Bool)
-      → shape_in (if b then Internal j (plain n) (plain l) else Internal k (plain l) (plain n))
-      ≡ (if b then shape.Internal j n l else shape.Internal k l n)
-  over_is true = refl
-  over_is false = refl
-
-  no_leaf : (b : Bool) (i : ℕ) → (if b then shape.Internal j n l else shape.Internal k l n) ≡ shape.Leaf i → ⊥
-  no_leaf true i e = cc
-  no_leaf false i e = cc
-
-  new_leaves : (i x : ℕ) → option_map shape_in (slice_get (Leaf k ∷ internal_over k j n l ∷ []) x) ≡ Some (shape.Leaf i)
-      → (i ≡ k) ⊎ (i ≡ j)
-  new_leaves i zero e = inl cc
-  new_leaves i (suc zero) e = absurd (no_leaf (nat_lt k j) i (sym (over_is (nat_lt k j)) ∙ same_Some _ _ e))
-  new_leaves i (suc (suc x)) e = cc
+-- the leaves of a new internal node are new ones
+new_leaves : (k j n l i x : ℕ)
+    → option_map shape_in (slice_get (Leaf k ∷ internal_over k j n l ∷ []) x) ≡ Some (shape.Leaf i) → (i ≡ k) ⊎ (i ≡ j)
+new_leaves k j n l i zero e = inl cc
+new_leaves k j n l i (suc zero) e = grind arith
+new_leaves k j n l i (suc (suc x)) e = cc
 
 puts : (memory : NatMitMem) (k : ℕ) → IsPutIn (shapes memory) (shapes (put_in memory k)) k
     (end_of (shapes memory) k (length memory.nodes) 0 0)
@@ -66,7 +49,7 @@ puts memory k =
     (Leaf k ∷ internal_over k j n end.leaf ∷ []) k end end.leaf 1
     (record {
       own = refl;
-      over = ap Some (over_is k j n end.leaf (nat_lt k j));
+      over = grind arith;
       beside = inl refl;
       leaves = new_leaves k j n end.leaf;
     })
@@ -108,7 +91,8 @@ put_in_range memory k h =
     let p = self.0 in
     let root = self.2.root_paired in
     let ends =
-    ends_paired (IsAmong p.nodes) (shapes memory) (shapes memory) (seen p memory memory self.2) k n 0 0 0 0 root root in
+    ends_paired (IsAmong p.nodes) (shapes memory) (shapes memory) (seen (IsAmong p.nodes) memory memory self.2) k n 0
+    0 0 0 root root in
     let q = with_two_new p memory memory k in
     let more = two_new p memory memory self.2 k end.leaf end.leaf ends.1 in
     let grown = with_internal memory k end.leaf in

@@ -1,23 +1,17 @@
 -- What is read of paired memories is paired, and each kind of access keeps a pairing.
-use Rattle.std.specs.Prelude.{◌≡◌, ℕ, not, ◌&&◌, nat_eq, refl, Option, Some, None, unwrap_or}
-use Rattle.std.proofs.Common.{ap, subst}
+use Rattle.std.specs.Prelude.{◌≡◌, ℕ, nat_eq, refl, Option, Some, None, unwrap_or}
+use Rattle.std.proofs.Common.{ap, arith}
 use Rattle.std.proofs.lemmas.List.{length-set}
-use Rattle.tree_machine.specs.declared.search_order.Side.{Side}
-use Rattle.tree_machine.specs.declared.search_order.Side.TheVariants.{Left, Right}
+use Rattle.natmit.specs.Types.{Outcome, Astray, Side, Left, Word, Node, Leaf, NatMitMem, NatMitLoc}
 use Rattle.tree_machine.specs.SearchOrder.{side_of}
 use Rattle.tree_machine.specs.Pairing.{Pairing, Extends, IsAmong, IsOneToOne, AreHeldPaired, AreOutcomesPaired}
 use Rattle.tree_machine.specs.Pairing.{AreStepsPaired}
-use Rattle.tree_machine.proofs.FreshPairs.{choices_paired, same_number, within_set, paired_set}
+use Rattle.std.specs.Option.{option_map}
+use Rattle.tree_machine.specs.Laws.SearchOrderPairs.{AreShapesPaired}
+use Rattle.tree_machine.proofs.FreshPairs.{paired_as, choices_paired, same_number, within_set, paired_set}
 use Rattle.tree_machine.specs.Laws.PairedRange.{IsCovered}
-use Rattle.natmit.specs.declared.memory.Word.{Word}
-use Rattle.natmit.specs.declared.memory.Node.{Node}
-use Rattle.natmit.specs.declared.memory.Node.TheVariants.{Leaf, Internal}
-use Rattle.natmit.specs.declared.memory.NatMitMem.{NatMitMem}
-use Rattle.natmit.specs.Memory.{is_plain, key_in, word_on, with_word, node_at, side_at, set_word}
+use Rattle.natmit.specs.Memory.{shape_in, shapes, is_plain, key_in, word_on, with_word, node_at, side_at, set_word}
 use Rattle.natmit.specs.Pairs.{AreWordsPaired, AreNodesPaired, AreMemoriesPaired, ArePlacesPaired, natmit_pairs}
-use Rattle.tree_machine.specs.declared.machine.Outcome.{Outcome}
-use Rattle.tree_machine.specs.declared.machine.Outcome.TheVariants.{Astray}
-use Rattle.natmit.specs.declared.place.NatMitLoc.{NatMitLoc}
 use Rattle.natmit.specs.Table.{After, found, after_read, after_exchange, after_tag}
 
 -- ---- what is read of paired nodes
@@ -25,8 +19,7 @@ use Rattle.natmit.specs.Table.{After, found, after_read, after_exchange, after_t
 module _ (P : ℕ → ℕ → Type 0) where
   pub key_paired : (a b : Node) → AreNodesPaired P a b → key_in a ≡ key_in b
   key_paired (Leaf k) (Leaf j) h = h
-  key_paired (Internal k l r) (Internal j m s) h = h.0
-  key_paired _ _ h = absurd h
+  key_paired a b h = search arith
 
   -- nodes that may be there, as they are read
   abbrev pub AreFoundPaired : Option Node → Option Node → Type 0
@@ -37,25 +30,18 @@ module _ (P : ℕ → ℕ → Type 0) where
   AreReadsPaired v w = AreHeldPaired (AreWordsPaired P) v w
 
   word_paired : (d : Side) (a b : Node) → AreNodesPaired P a b → AreReadsPaired (word_on d a) (word_on d b)
-  word_paired d (Leaf k) (Leaf j) h = tt
-  word_paired Left (Internal k l r) (Internal j m s) h = h.1
-  word_paired Right (Internal k l r) (Internal j m s) h = h.2
-  word_paired _ _ _ h = absurd h
+  word_paired Left (Leaf k) (Leaf j) h = tt
+  word_paired d a b h = search arith
 
   with_word_paired : (d : Side) (v w : Word) (a b : Node) → AreNodesPaired P a b → AreWordsPaired P v w
       → AreNodesPaired P (with_word d v a) (with_word d w b)
-  with_word_paired d v w (Leaf k) (Leaf j) h g = h
-  with_word_paired Left v w (Internal k l r) (Internal j m s) h g = (h.0, g, h.2)
-  with_word_paired Right v w (Internal k l r) (Internal j m s) h g = (h.0, h.1, g)
-  with_word_paired _ v w _ _ h g = absurd h
+  with_word_paired Left v w (Leaf k) (Leaf j) h g = h
+  with_word_paired d v w a b h g = search arith
 
   -- exchanges that compare with the plain word of paired nodes succeed together
   pub plain_paired : IsOneToOne P → (x y : ℕ) (v w : Word) → P x y → AreWordsPaired P v w → is_plain x v ≡ is_plain y w
   plain_paired one x y v w p h =
-      let flag : v.flag ≡ w.flag = h.0 in
-      let tag : v.tag ≡ w.tag = h.1 in
-      let node : nat_eq v.node x ≡ nat_eq w.node y = same_number P one v.node w.node x y h.2 p in
-      λ i. not (flag i) && not (tag i) && node i
+      let node : nat_eq v.node x ≡ nat_eq w.node y = same_number P one v.node w.node x y h.2 p in cc
 
 -- ---- a word that is written
 
@@ -68,6 +54,16 @@ module _ (P : ℕ → ℕ → Type 0) (memory twin : NatMitMem) (h : AreMemories
       → AreReadsPaired P (word_on d (node_at memory x)) (word_on e (node_at twin y))
   reads_paired x y d e p same = rw (← same) (word_paired P d _ _ (h.nodes_paired x y p))
 
+  shapes_paired : (a b : Node) → AreNodesPaired P a b → AreShapesPaired P (Some (shape_in a)) (Some (shape_in b))
+  shapes_paired (Leaf k) (Leaf j) g = g
+  shapes_paired a b g = search arith
+
+  -- paired nodes are seen alike
+  pub seen : (x y : ℕ) → P x y → AreShapesPaired P (shapes memory x) (shapes twin y)
+  seen x y at =
+      paired_as (AreFoundPaired P) (λ a b. AreShapesPaired P (option_map shape_in a) (option_map shape_in b))
+      memory.nodes twin.nodes x y (h.in_range x y at) shapes_paired (h.nodes_paired x y at)
+
   -- paired nodes get paired words
   pub set_word_paired : (x y : ℕ) (d e : Side) (v w : Word) → P x y → d ≡ e → AreWordsPaired P v w
       → AreMemoriesPaired P (set_word memory x d v) (set_word twin y e w)
@@ -78,10 +74,8 @@ module _ (P : ℕ → ℕ → Type 0) (memory twin : NatMitMem) (h : AreMemories
         begin_paired = h.begin_paired;
         in_range = within_set P memory.nodes twin.nodes x y _ _ h.in_range;
         nodes_paired =
-            paired_set P memory.nodes twin.nodes x y (with_word d v (node_at memory x)) (with_word e w (node_at twin y))
-            (AreFoundPaired P) h.one_to_one h.in_range p
-            (subst (λ z. AreNodesPaired P (with_word d v (node_at memory x)) (with_word z w (node_at twin y))) same
-            (with_word_paired P d v w _ _ (h.nodes_paired x y p) g)) h.nodes_paired;
+            paired_set P memory.nodes twin.nodes x y _ _ (AreFoundPaired P) h.one_to_one h.in_range p
+            (rw (← same) (with_word_paired P d v w _ _ (h.nodes_paired x y p) g)) h.nodes_paired;
       }
 
 -- ---- kinds of access
@@ -134,8 +128,7 @@ module _ (p : Pairing) (memory twin : NatMitMem) (h : AreMemoriesPaired (IsAmong
       → ((v w : Word) → AreWordsPaired P v w → AreGoingAlike P (f v) (g w))
       → AreAccessesPaired (after_read memory x d f) (after_read twin y e g)
   read_keeps x y d e f g at same both =
-      found_paired (word_on d (node_at memory x)) (word_on e (node_at twin y)) _ _
-      (reads_paired P memory twin h x y d e at same) (λ v w r. stays (f v) (g w) (both v w r))
+      found_paired _ _ _ _ (reads_paired P memory twin h x y d e at same) (λ v w r. stays (f v) (g w) (both v w r))
 
   -- what is written may name new nodes, which the further pairs pair
   module _ (q : Pairing) (grown grown_twin : NatMitMem) (more : AreGrown q grown grown_twin) where
@@ -163,8 +156,7 @@ module _ (p : Pairing) (memory twin : NatMitMem) (h : AreMemoriesPaired (IsAmong
         (after_exchange twin y e k grown_twin desired_twin success_twin failure_twin)
     exchange_keeps x y d e l k desired desired_twin success failure success_twin failure_twin at same expected words won
         lost =
-        found_paired (word_on d (node_at memory x)) (word_on e (node_at twin y)) _ _
-        (reads_paired P memory twin h x y d e at same)
+        found_paired _ _ _ _ (reads_paired P memory twin h x y d e at same)
         (λ v w r. choices_paired AreAccessesPaired (is_plain l v) (is_plain k w) _ _ _ _
         (plain_paired P h.one_to_one l k v w expected r)
         (written x y d e desired desired_twin success success_twin at same words won)
@@ -174,6 +166,5 @@ module _ (p : Pairing) (memory twin : NatMitMem) (h : AreMemoriesPaired (IsAmong
   pub tag_keeps : (x y : ℕ) (d e : Side) (goes goes_twin : Outcome NatMitLoc) → P x y → d ≡ e
       → AreGoingAlike P goes goes_twin → AreAccessesPaired (after_tag memory x d goes) (after_tag twin y e goes_twin)
   tag_keeps x y d e goes goes_twin at same going =
-      found_paired (word_on d (node_at memory x)) (word_on e (node_at twin y)) _ _
-      (reads_paired P memory twin h x y d e at same)
+      found_paired _ _ _ _ (reads_paired P memory twin h x y d e at same)
       (λ v w r. written p memory twin unchanged x y d e _ _ goes goes_twin at same (r.0, refl, r.2) going)

@@ -1,40 +1,26 @@
 -- More pairs pair what fewer do, and new nodes, paired under fresh numbers, keep a pairing.
-use Rattle.std.specs.Prelude.{◌≡◌, ℕ, nat_lt, [], ◌∷◌, ◌++◌, length, refl, Option, Some, None}
+use Rattle.std.specs.Prelude.{◌≡◌, ℕ, nat_lt, [], ◌∷◌, ◌++◌, length, refl}
 use Rattle.std.proofs.Common.{ap, inl, inr, length-append}
 use Rattle.std.proofs.lemmas.List.{append_assoc}
-use Rattle.tree_machine.specs.Cells.{IsPairedOrNone}
-use Rattle.tree_machine.specs.Laws.Cells.{AllZip-weaker}
+use Rattle.tree_machine.specs.Laws.PartsExactly.{parts_weaker}
 use Rattle.tree_machine.specs.Laws.PairedRange.{fresh_covers}
 use Rattle.tree_machine.specs.Pairing.{Pairing, IsAmong}
-use Rattle.tree_machine.specs.Parts.{Part, ArePartsPaired}
 use Rattle.tree_machine.proofs.FreshPairs.{choices_paired, fresh_one, fresh_within, fresh_paired}
-use Rattle.natmit.specs.declared.memory.Node.{Node}
-use Rattle.natmit.specs.declared.memory.Node.TheVariants.{Leaf, Internal}
-use Rattle.natmit.specs.declared.memory.NatMitMem.{NatMitMem}
-use Rattle.natmit.specs.Memory.{plain, node_at, key_at, internal_over, with_internal, new_internal}
+use Rattle.natmit.specs.Types.{Node, Leaf, NatMitMem, NatMitLoc}
+use Rattle.natmit.specs.Memory.{node_at, key_at, internal_over, with_internal, new_internal}
 use Rattle.natmit.specs.Pairs.{AreNodesPaired, AreMemoriesPaired, ArePlacesPaired}
 use Rattle.natmit.specs.Laws.Parts.{node_parts, place_parts}
-use Rattle.natmit.specs.declared.place.NatMitLoc.{NatMitLoc}
 use Rattle.natmit.specs.Laws.PairedAccesses.{AreFoundPaired, AreGrown, key_paired}
 
 -- ---- more pairs pair what fewer do
 
 module _ (P Q : ℕ → ℕ → Type 0) (f : (x y : ℕ) → P x y → Q x y) where
-  name_weaker : (a b : Option ℕ) → IsPairedOrNone P a b → IsPairedOrNone Q a b
-  name_weaker None None h = tt
-  name_weaker (Some x) (Some y) h = f x y h
-  name_weaker _ _ h = absurd h
-
-  parts_weaker : (a b : Part) → ArePartsPaired P P a b → ArePartsPaired Q P a b
-  parts_weaker a b h =
-      record { facts = h.facts; nodes = AllZip-weaker _ _ name_weaker a.nodes b.nodes h.nodes; records = h.records }
-
   nodes_extend : (a b : Node) → AreNodesPaired P a b → AreNodesPaired Q a b
-  nodes_extend a b h = (node_parts Q P a b).1 (parts_weaker _ _ ((node_parts P P a b).0 h))
+  nodes_extend a b h = (node_parts Q P a b).1 (parts_weaker P Q P P f (λ x y p. p) _ _ ((node_parts P P a b).0 h))
 
   -- places stay paired
   pub places_extend : (place twin : NatMitLoc) → ArePlacesPaired P place twin → ArePlacesPaired Q place twin
-  places_extend a b h = (place_parts Q P a b).1 (parts_weaker _ _ ((place_parts P P a b).0 h))
+  places_extend a b h = (place_parts Q P a b).1 (parts_weaker P Q P P f (λ x y p. p) _ _ ((place_parts P P a b).0 h))
 
 -- ---- a node that is appended
 
@@ -69,8 +55,7 @@ with_node_paired p memory twin a b h g =
 over_paired : (P : ℕ → ℕ → Type 0) (k x y i j l m : ℕ) → P x y → i ≡ j → P l m
     → AreNodesPaired P (internal_over k i x l) (internal_over k j y m)
 over_paired P k x y i j l m p e q =
-    choices_paired (AreNodesPaired P) (nat_lt k i) (nat_lt k j) (Internal i (plain x) (plain l))
-    (Internal k (plain l) (plain x)) (Internal j (plain y) (plain m)) (Internal k (plain m) (plain y)) (ap (nat_lt k) e)
+    choices_paired (AreNodesPaired P) (nat_lt k i) (nat_lt k j) _ _ _ _ (ap (nat_lt k) e)
     (e, (refl, refl, p), (refl, refl, q)) (refl, (refl, refl, q), (refl, refl, p))
 
 -- the pairs with those of the new leaves and the new internal nodes

@@ -1,27 +1,15 @@
 -- Accesses of paired places to paired memories keep a pairing, row by row of the place table.
 use Rattle.std.specs.Prelude.{◌≡◌, ℕ, true, false, ◌&&◌, nat_eq, refl, Bool, ◌||◌}
 use Rattle.std.proofs.Common.{ap}
-use Rattle.tree_machine.specs.declared.search_order.Side.{Side}
-use Rattle.tree_machine.specs.declared.search_order.Side.TheVariants.{Left}
+use Rattle.natmit.specs.Types.{Op, Side, Left, NatMit, Word, Node, Leaf, Internal, NatMitMem, Mode, Plain, Owner, Path}
+use Rattle.natmit.specs.Types.{NatMitLoc, Begin, Down, Put, Flag, Look, CleanRead, Tag, Sibling, Swing}
 use Rattle.tree_machine.specs.Pairing.{Pairing, IsAmong, IsOneToOne}
 use Rattle.tree_machine.proofs.FreshPairs.{choices_paired, same_number}
-use Rattle.natmit.specs.declared.memory.Word.{Word}
-use Rattle.natmit.specs.declared.memory.Node.{Node}
-use Rattle.natmit.specs.declared.memory.Node.TheVariants.{Leaf, Internal}
-use Rattle.natmit.specs.declared.memory.NatMitMem.{NatMitMem}
 use Rattle.natmit.specs.Memory.{plain, node_at, side_at, with_internal, new_internal}
 use Rattle.natmit.specs.Pairs.{AreWordsPaired, AreNodesPaired, AreMemoriesPaired, AreModesPaired, ArePathsPaired}
 use Rattle.natmit.specs.Pairs.{ArePlacesPaired}
 use Rattle.sched_program.specs.Program.{key_of}
-use Rattle.sched_program.specs.declared.operation.Op.{Op}
 use Rattle.sched_program.specs.declared.operation.Op.TheVariants.{Insert, Delete, Find}
-use Rattle.natmit.specs.declared.place.Mode.{Mode}
-use Rattle.natmit.specs.declared.place.Mode.TheVariants.{Plain, Owner}
-use Rattle.natmit.specs.declared.place.Path.{Path}
-use Rattle.natmit.specs.declared.place.NatMitLoc.{NatMitLoc}
-use Rattle.natmit.specs.declared.place.NatMitLoc.TheVariants.{Begin, Down, Put, Flag, Look, CleanRead, Tag, Sibling}
-use Rattle.natmit.specs.declared.place.NatMitLoc.TheVariants.{Swing}
-use Rattle.natmit.specs.declared.machine.NatMit.{NatMit}
 use Rattle.natmit.specs.Table.{other_side, path_of, path_below, arrived, went_down, looked, tagging, clean_read, swung}
 use Rattle.natmit.specs.Table.{act}
 use Rattle.natmit.specs.Laws.PairedAccesses.{AreGoingAlike, AreAccessesPaired, unchanged, side_paired, read_keeps}
@@ -39,15 +27,13 @@ module _ (P : ℕ → ℕ → Type 0) where
   tagging_paired : (machine : NatMit) (p q : Path) (d e : Side) (m o : Mode) → ArePathsPaired P p q
       → d ≡ e → AreModesPaired P m o → ArePlacesPaired P (tagging machine p d m) (tagging machine q e o)
   tagging_paired machine p q d e m o h same hm =
-      choices_paired (ArePlacesPaired P) machine.tag machine.tag (Tag p d m) (Sibling p d m) (Tag q e o) (Sibling q e o)
-      refl (h, same, hm) (h, same, hm)
+      choices_paired (ArePlacesPaired P) machine.tag machine.tag _ _ _ _ refl (h, same, hm) (h, same, hm)
 
   below_paired : (p q : Path) (l k : ℕ) (t v : Bool) → ArePathsPaired P p q → P l k → t ≡ v
       → ArePathsPaired P (path_below p l t) (path_below q k v)
   below_paired p q l k true true h hl e = (h.0, h.1, hl)
   below_paired p q l k false false h hl e = (h.2, hl, hl)
-  below_paired p q l k true false h hl e = cc
-  below_paired p q l k false true h hl e = cc
+  below_paired p q l k _ _ h hl e = cc
 
   module _ (one : IsOneToOne P) where
     arrived_paired : (op : Op) (p q : Path) (l k : ℕ) (t v : Bool) (m o : Mode) (node node_twin : Node)
@@ -69,10 +55,8 @@ module _ (P : ℕ → ℕ → Type 0) where
         → AreWordsPaired P v w → AreGoingAlike P (looked p l v) (looked q k w)
     looked_paired p q l k v w hp hl h =
         let node : nat_eq v.node l ≡ nat_eq w.node k = same_number P one v.node w.node l k h.2 hl in
-        let flag : v.flag ≡ w.flag = h.0 in
-        let tag : v.tag ≡ w.tag = h.1 in
         choices_paired (AreGoingAlike P) (nat_eq v.node l && (v.flag || v.tag)) (nat_eq w.node k && (w.flag || w.tag))
-        _ _ _ _ (λ i. node i && (flag i || tag i)) (hp, tt) tt
+        _ _ _ _ (cc) (hp, tt) tt
 
 -- ---- each place
 

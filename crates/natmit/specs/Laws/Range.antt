@@ -4,15 +4,12 @@ use Rattle.std.specs.Prelude.{List, [], length, Option, IfSome, All}
 use Rattle.std.specs.List.{AllZip}
 use Rattle.std.proofs.Common.{arith}
 use Rattle.std.proofs.lemmas.List.{length-map}
-use Rattle.sched_program.specs.declared.operation.Op.{Op}
+use Rattle.natmit.specs.Types.{Op, NatMit, NatMitMem, NatMitLoc}
 use Rattle.tree_machine.specs.Pairing.{Pairing, IsAmong, AreHeldPaired}
 use Rattle.tree_machine.specs.Parts.{IsPartsPairing}
 use Rattle.tree_machine.specs.Rules.{IsOutcomeInRange}
 use Rattle.tree_machine.specs.Laws.PairedRange.{selves, selves_cover, self_pairing, paired_in_range}
 use Rattle.tree_machine.specs.Laws.PairedRange.{act_kept as kept_by_pairs}
-use Rattle.natmit.specs.declared.machine.NatMit.{NatMit}
-use Rattle.natmit.specs.declared.memory.NatMitMem.{NatMitMem}
-use Rattle.natmit.specs.declared.place.NatMitLoc.{NatMitLoc}
 use Rattle.natmit.specs.NatMitRules.{natmit_rules}
 use Rattle.natmit.specs.Pairs.{AreMemoriesPaired, ArePlacesPaired}
 use Rattle.natmit.specs.Parts.{natmit_parts}
@@ -21,8 +18,7 @@ use Rattle.natmit.specs.Table.{act}
 use Rattle.natmit.specs.Laws.PairedAccesses.{IsWhole}
 use Rattle.natmit.specs.Laws.PairedAppends.{places_extend}
 use Rattle.natmit.specs.Laws.PairedSteps.{act_keeps}
-use Rattle.natmit.specs.Laws.Parts.{pairing_to, pairing_from}
-use Rattle.natmit.specs.Laws.PartsRange.{parts_in_range, values_in_range}
+use Rattle.natmit.specs.Laws.Parts.{pairing_to, pairing_from, parts_in_range, values_in_range}
 
 abbrev ArePlacesIn : NatMitMem → List (Option NatMitLoc) → Type 0
 ArePlacesIn memory held = All (λ place. IfSome place (IsPlaceInRange memory)) held

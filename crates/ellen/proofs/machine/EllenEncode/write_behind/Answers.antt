@@ -1,7 +1,7 @@
-use Rattle.std.proofs.Common.{map, sym, ◌∙◌}
+use Rattle.std.proofs.Common.{map}
 use Rattle.std.proofs.lemmas.List.{length-map}
 use Rattle.ellen.specs.Parts.{held_part, ellen_parts}
-use Rattle.ellen.specs.Laws.PartsRange.{parts_in_range}
+use Rattle.ellen.specs.Laws.Parts.{parts_in_range}
 use Rattle.ellen.proofs.machine.EllenEncode.write_behind.Goals as goal
 
 pub write_parts_behind-requires-clause-in_range : goal.write_parts_behind-requires-clause-in_range
@@ -16,6 +16,6 @@ write_parts_behind-requires-clause-read c =
       other = ellen_parts read.other read.held;
       twins = map held_part read.twins;
       in_range = parts_in_range read.other read.held read.in_range read.places_in_range;
-      many = length-map read.held held_part ∙ read.many ∙ sym (length-map read.twins held_part);
+      many = simp length-map read.many;
       same = read.same;
     }

@@ -1,4 +1,4 @@
-use Rattle.ellen.specs.Laws.PartsRange.{parts_in_range}
+use Rattle.ellen.specs.Laws.Parts.{parts_in_range}
 use Rattle.ellen.proofs.machine.EllenEncode.write_code.Goals as goal
 
 pub write_parts-requires : goal.write_parts-requires

@@ -1,4 +1,4 @@
-use Rattle.ellen.specs.Laws.PartsRange.{parts_in_range}
+use Rattle.ellen.specs.Laws.Parts.{parts_in_range}
 use Rattle.ellen.proofs.machine.EllenMachine.form.Goals as goal
 
 pub form_parts-requires : goal.form_parts-requires

@@ -1,4 +1,4 @@
-use Rattle.natmit.specs.Laws.PartsRange.{parts_in_range}
+use Rattle.natmit.specs.Laws.Parts.{parts_in_range}
 use Rattle.natmit.proofs.machine.NatMitEncode.write_code.Goals as goal
 
 pub write_parts-requires : goal.write_parts-requires

@@ -1,4 +1,4 @@
-use Rattle.natmit.specs.Laws.PartsRange.{parts_in_range}
+use Rattle.natmit.specs.Laws.Parts.{parts_in_range}
 use Rattle.natmit.proofs.machine.NatMitMachine.form.Goals as goal
 
 pub form_parts-requires : goal.form_parts-requires
