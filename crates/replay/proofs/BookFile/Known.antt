@@ -1,6 +1,5 @@
 -- What labels tell of alike states.
-use Rattle.std.proofs.Common.{◌≡◌, ℕ, suc, ◌+◌, ◌<◌, inr, Some, Option, List, length, Contains, refl}
-use Rattle.std.proofs.Common.{arith, slice_get}
+use Rattle.std.proofs.Common.{◌≡◌, ℕ, suc, ◌+◌, ◌<◌, inr, Some, Option, List, length, Contains, refl, arith, slice_get}
 use borrow.Author.Count.{below_more}
 use Rattle.std.proofs.lemmas.Option.{slice_get_within}
 use Rattle.lin.proofs.Lists.{Contains-slice_get, slice_get-Contains}
