@@ -1,4 +1,4 @@
 pub mod Text
-mod BookFile
+pub mod BookFile
 mod Either
-mod Stopping
+pub mod Stopping

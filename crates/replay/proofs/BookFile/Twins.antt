@@ -89,10 +89,7 @@ module _ {Machine Memory Place Form : Type 0} {rules : Rules Memory Place} {prog
         by None is = refl
         by (Some u) is = cc (none, (alike_step rules s c lawful alike program t u is).1)
 
-    -- an order that shows the one shows the other, and what it leaves amiss is the same
-    pub shown_there : (order : List OpId) → IsShown rules program s order → IsShown rules program c order
-    shown_there order shown = (well_there lawful program alike shown.0, rw (← alike_history rules s c alike) shown.1)
-
+    -- what an order leaves amiss is the same
     pub unshown_there : (order : List OpId) (number : ℕ) (fault : CheckFault)
         → IsUnshown rules program s order number fault → IsUnshown rules program c order number fault
     unshown_there order number fault (inl h) = inl (h.0, λ well. h.1 (well_there lawful program turned well))
@@ -193,7 +190,7 @@ module _ {Machine Memory Place Form : Type 0} {rules : Rules Memory Place} {prog
         → (u : State Machine Memory Place Form) × Tells rules program states line u × (label ≡ named_by code form_of u)
     step_passes code label labelled shown = (
       there.0,
-      (there.1, shown_there lawful forms there.3 there.2 there.4 line.order shown),
+      (there.1, (well_there lawful program there.4 shown.0, rw (← alike_history rules n there.0 there.4) shown.1)),
       labelled ∙ one_label lawful forms there.3 there.2 there.4 code,
     )
 

@@ -70,14 +70,9 @@ pub split_at : {X : Type 0} (xs : List X) (i : ℕ) (x d : X) → i < length xs 
     → xs ≡ take i xs ++ x ∷ drop (i + 1) xs
 split_at xs i x d less is = rw (← is, ← drop_more xs i d less) (sym (take-append-drop i xs))
 
--- the first of some lines, and those after it
-abbrev pub NextLine : List ℕ → List ℕ → List (List ℕ) → Type 0
-NextLine text tail texts = (later : List (List ℕ)) × (texts ≡ text ∷ later) × AreLines tail later
-
 -- where lines have a first line feed, the first line comes before it
 pub next_line : {bytes text tail : List ℕ} {texts : List (List ℕ)} → AreLines bytes texts → bytes ≡ text ++ 10 ∷ tail
-    → AllByRecursion (λ b. b ≢ 10) text
-    → NextLine text tail texts
+    → AllByRecursion (λ b. b ≢ 10) text → (later : List (List ℕ)) × (texts ≡ text ∷ later) × AreLines tail later
 next_line {text = text} {tail = tail} {texts = []} are e bare = absurd (not_nil text 10 tail (sym are.whole ∙ e))
 next_line {text = text} {tail = tail} {texts = first ∷ later} are e bare =
     let same = one_cut 10 first (ended later) text tail (sym are.whole ∙ e) are.bare.0 bare in

@@ -25,11 +25,6 @@ pub record HasReadLines (bytes : List ℕ) (lines : List BookLine) (rest : List 
   pub each : AllZip IsEntryLine done lines
   pub bounded : length (done ++ ahead) < 2000000
 
-pub lines_none : {bytes : List ℕ} {texts : List (List ℕ)} → AreLines bytes texts → length texts < 2000000
-    → HasReadLines bytes [] bytes
-lines_none {texts = texts} are bounded =
-    record { done = []; ahead = texts; whole = are; left = are; each = tt; bounded = bounded }
-
 pub lines_push : {bytes rest text tail : List ℕ} {lines : List BookLine} {line : BookLine}
     → HasReadLines bytes lines rest → rest ≡ text ++ 10 ∷ tail
     → AllByRecursion (λ b. b ≢ 10) text → IsEntryLine text line → HasReadLines bytes (lines ++ line ∷ []) tail

@@ -71,13 +71,10 @@ entry_bare text line is =
     rw is.whole (all_append (λ b. b ≢ 10) is.parent (32 ∷ (48 + line.thread) ∷ 32 ∷ is.order)
     (digits_bare 10 (omega arith) is.parent is.is_number.digits.1) (omega arith, (omega arith, (omega arith, order))))
 
-words_bare : AllByRecursion (λ b. b ≢ 10) (codes "treesched book 1 entries ")
-words_bare = search arith
-
 head_bare : (entries : ℕ) → entries < 2 ^ 64 → AllByRecursion (λ b. b ≢ 10) (head_text entries)
 unfolding head_text
 head_bare entries small =
-    all_append (λ b. b ≢ 10) (codes "treesched book 1 entries ") (decimal entries) words_bare
+    all_append (λ b. b ≢ 10) (codes "treesched book 1 entries ") (decimal entries) (search arith)
     (digits_bare 10 (omega arith) (decimal entries) (is_number entries small).digits.1)
 
 entries_each : (lines : List BookLine) → AllByRecursion IsProper lines → AllZip IsEntryLine (map text_of lines) lines
