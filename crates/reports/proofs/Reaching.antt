@@ -1,9 +1,13 @@
 -- For each number of steps there is a number of states that they reach.
-use Rattle.std.proofs.Common.{◌≡◌, ℕ, zero, suc, ◌<◌, ◌≤◌, ◌≢◌, inl, inr, Bool, true, Option, Some, None, List, []}
-use Rattle.std.proofs.Common.{◌∷◌, ◌++◌, length, map, refl, sym, ap, ◌∙◌, arith, slice_get, Contains}
-use Rattle.std.proofs.lemmas.Bool.{true≢false, cases_eq}
+use Rattle.std.proofs.Common.{◌≡◌, ℕ, zero, suc, ◌<◌, ◌≤◌, ◌≢◌, inl, inr, Bool, true, false, Option, Some, None, List, []}
+use Rattle.std.proofs.Common.{◌∷◌, ◌++◌, length, map, refl, sym, ap, ◌∙◌, arith, slice_get, get_or, Contains}
+use Rattle.std.specs.Cmp.{IsEquivalence}
+use Rattle.std.specs.List.{list_any}
+use Rattle.std.proofs.lemmas.Bool.{true≢false, cases_eq, false_from_ne_true, true_from_ne_false}
 use Rattle.std.proofs.lemmas.List.Elements.{Contains-append_left, Contains-append_right, Contains-append_cases}
-use Rattle.std.proofs.lemmas.Option.{option_and_then_some, slice_get_within}
+use Rattle.std.proofs.lemmas.Map.Keys.{IsDistinct-from_apart}
+use Rattle.std.proofs.lemmas.Map.Made.{length-le_from_is_member}
+use Rattle.std.proofs.lemmas.Option.{option_and_then_some, slice_get-get_or}
 use Rattle.lin.proofs.Lists.{Contains-cases, Contains-slice_get, not-Contains-nil, slice_get-Contains}
 use Rattle.tree_machine.proofs.Lists.{get-append_cases, get-map, map-get}
 use Rattle.book.specs.declared.successor.Successor.{Successor}
@@ -11,49 +15,41 @@ use Rattle.replay.specs.declared.finding.Finding.TheVariants.{Astray}
 use Rattle.replay.specs.Schedule.{AreOneBy, StepMachine, IsMachine, IsReachableWithin, Merges, run}
 use Rattle.book.specs.Unknown.{unknown}
 use Rattle.book.specs.Counts.{IsCount}
-use Rattle.book.proofs.Unknown.{unknown_is, unknown_apart, known_or_kept, list_any-false}
-use Rattle.std.specs.List.{remove}
-use Rattle.std.proofs.lemmas.List.Edits.{length-remove}
+use Rattle.book.proofs.Unknown.{unknown_is, unknown_apart, known_or_kept, list_any-false, list_any-true}
 
--- ---- states no two of which count as one are no more than states that stand for each of them
-
-module _ {S : Type 0} where
-  -- where an element goes, another is still there
-  remove_keeps : (xs : List S) (i j : ℕ) (x : S) → i ≢ j → slice_get xs j ≡ Some x
-      → (k : ℕ) × (slice_get (remove xs i) k ≡ Some x)
-  remove_keeps [] i j x other at = absurd (cc)
-  remove_keeps (w ∷ xs) zero zero x other at = absurd (other refl)
-  remove_keeps (w ∷ xs) zero (suc j) x other at = (j, at)
-  remove_keeps (w ∷ xs) (suc i) zero x other at = (0, at)
-  remove_keeps (w ∷ xs) (suc i) (suc j) x other at =
-      let r = remove_keeps xs i j x (λ e. other (ap suc e)) at in (suc r.0, r.1)
+same_test : (a b : Bool) → (a ≡ true → b ≡ true) → (b ≡ true → a ≡ true) → a ≡ b
+same_test true b there back = sym (there refl)
+same_test false true there back = back refl
+same_test false false there back = refl
 
 module _ {S : Type 0} {m : StepMachine S} {same : S → S → Bool} (merges : Merges m same) where
-  crowd : (ys xs : List S)
-      → ((i j : ℕ) (x y : S) → slice_get ys i ≡ Some x → slice_get ys j ≡ Some y → same x y ≡ true → i ≡ j)
-      → ((j : ℕ) (y : S) → slice_get ys j ≡ Some y → (i : ℕ) × (x : S) × (slice_get xs i ≡ Some x) × (same x y ≡ true))
-      → length ys ≤ length xs
-  crowd [] xs apart covered = omega arith
-  crowd (y ∷ ys) xs apart covered =
-      let first = covered 0 y refl in
-      let rest : length ys ≤ length (remove xs first.0) = crowd ys (remove xs first.0)
-      (λ i j v w at_i at_j h. omega (arith, apart (suc i) (suc j) v w at_i at_j h))
-      (λ j w at. let c = covered (suc j) w at in
-      elim (cases_eq first.0 c.0) [
-        | inl e ↦ absurd (
-            let is : first.1 ≡ c.1 = cc (first.2, c.2) in
-            let both = merges.joined y first.1 w (merges.turned first.1 y first.3) (rw is c.3) in
-            omega (arith, apart 0 (suc j) y w refl at both))
-        | inr n ↦ (let k = remove_keeps xs first.0 c.0 c.1 n c.2 in (k.0, c.1, k.1, c.3))
-      ]) in
-      omega (arith, length-remove xs first.0 (slice_get_within xs first.0 first.1 first.2))
+  laws : IsEquivalence same
+  laws = record {
+    refl = merges.itself;
+    symm = (λ x y. same_test (same x y) (same y x) (merges.turned x y) (merges.turned y x));
+    congr = (λ x y z one. same_test (same x z) (same y z) (merges.joined y x z (merges.turned x y one))
+        (merges.joined x y z one));
+  }
 
   -- states that n steps reach, no two of which count as one, are at most as many as n steps reach
   pub at_most : {n k : ℕ} → IsCount m (AreOneBy same) n k → (ys : List S)
       → ((i j : ℕ) (x y : S) → slice_get ys i ≡ Some x → slice_get ys j ≡ Some y → same x y ≡ true → i ≡ j)
       → ((i : ℕ) (x : S) → slice_get ys i ≡ Some x → IsReachableWithin m n x) → length ys ≤ k
   at_most count ys apart reached =
-      omega (arith, crowd ys count.states apart (λ j y at. count.all y (reached j y at)), count.many)
+      let distinct = IsDistinct-from_apart same ys (λ i j d less within.
+      false_from_ne_true (same (get_or ys i d) (get_or ys j d)) (λ one.
+      omega (
+        arith,
+        apart i j (get_or ys i d) (get_or ys j d) (slice_get-get_or ys i d (omega arith))
+            (slice_get-get_or ys j d within) one,
+      ))) in
+      let fewer = length-le_from_is_member laws ys count.states distinct (λ q among.
+      let y = list_any-true (same q) ys among in
+      let x = count.all y.1 (reached y.0 y.1 y.2) in
+      let one = merges.joined q y.1 x.1 y.3 (merges.turned x.1 y.1 x.3) in
+      true_from_ne_false (list_any (same q) count.states) (λ none.
+      true≢false (sym one ∙ list_any-false (same q) count.states none x.0 x.1 x.2))) in
+      omega (arith, fewer, count.many)
 
 module _ {S : Type 0} (m : StepMachine S) (same : S → S → Bool) (merges : Merges m same) (known : List S)
     (xs : List (Successor S)) where
