@@ -43,7 +43,7 @@ pub closed_holds : {S : Type 0} (m : StepMachine S) (same : S → S → Bool) (r
     → Merges m same → ((a b : S) → m.Fits a → m.Fits b → same a b ≡ true → IsSound right a → IsSound right b)
     → (es : List (Entry S)) → IsLawful m (AreOneBy same) right es → IsWorkedOut es → AreSound es → HoldsForEvery m right
 closed_holds m same right machine merges alike es law out sound c s leads =
-    let w = covered m machine (AreOneBy same) merges.joined merges.steps_alike (states es)
+    let w = covered m machine (AreOneBy same) (λ r s u _ _ _. merges.joined r s u) merges.steps_alike (states es)
     (worked_out_closed m (AreOneBy same) right es law (merges.itself m.start) out) c s leads in
     let e = at-states es w.0 w.1 w.2 in
     alike e.0.state s (law.fit w.0 e.0 e.1) (fits_after m machine c s leads) (rw e.2 w.3)

@@ -64,10 +64,12 @@ with_others views id v at = rw (set_again views id v at) at (changed_there no_se
 spent_at_most : (size : Size) (views : List Draws) → All (FitsCounter size) views → spent_of views ≤ seats_of views
 spent_at_most size [] h = omega arith
 spent_at_most size (u ∷ us) h =
-    let rest = spent_at_most size us (All-tail (FitsCounter size) u us h) in
-    let spent = sum_by-cons (λ (d : Draws). d.spent) u us in
-    let seats = sum_by-cons (λ (d : Draws). d.seats) u us in
-    omega (arith, (All-head (FitsCounter size) u us h).stated)
+    omega (
+      arith,
+      spent_at_most size us (All-tail (FitsCounter size) u us h),
+      (All-head (FitsCounter size) u us h).stated,
+      sum_by-cons {X = Draws},
+    )
 
 -- seats that are none drew nothing
 nothing : (size : Size) (views : List Draws) → All (FitsCounter size) views → seats_of views ≡ 0 → places_of views ≡ []
@@ -217,21 +219,16 @@ join_kept size id v other w knows s kept at apart at' =
       },
     )
 
--- what the last state says of the seat that is every seat
-pub record Ended (size : Size) (word : ℕ) (v : Draws) : Type 0 where
-  pub drawn : IsPermutation (below (min word size.len)) v.places
-  pub stated : word ≡ min word size.len + v.spent
-
--- for a counter of an equal size whose word was read
+-- what the last state says of the seat that is every seat, for a counter of an equal size whose word was read
 pub ends_at : (key size : Size) (id : ℕ) (v : Draws) (s : State (Unit {0}) Draws) (word : ℕ)
-    → Seen (TableHolds key) id v s → key ≡ size → v.seats ≡ size.seats → get_or s.words 0 0 ≡ word → Ended size word v
+    → Seen (TableHolds key) id v s → key ≡ size → v.seats ≡ size.seats → get_or s.words 0 0 ≡ word
+    → IsPermutation (below (min word size.len)) v.places × (word ≡ min word size.len + v.spent)
 ends_at key size id v s word seen is all read =
     let h : ClaimsHold size word s.views = rw (is, read) at seen.0.1 in
     let others = set s.views id no_seat in
     let join = with_others s.views id v seen.1 in
     let fits = All-set (FitsCounter size) s.views id no_seat (no_seat_fits size) h.fits in
-    let none = nothing size others fits (omega arith) in
-    record {
-      drawn = IsPermutation-trans _ _ _ h.drawn (IsPermutation-sym _ _ (rw none at join.drawn));
-      stated = omega (arith, drawn_length _ _ h.drawn, spent_at_most size others fits);
-    }
+    let none = nothing size others fits (omega arith) in (
+      IsPermutation-trans _ _ _ h.drawn (IsPermutation-sym _ _ (rw none at join.drawn)),
+      omega (arith, drawn_length _ _ h.drawn, spent_at_most size others fits),
+    )

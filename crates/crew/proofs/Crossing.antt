@@ -4,7 +4,7 @@ use mathlib.Core.List.{[], ◌∷◌}
 use mir.Syntax.{named}
 use base.Fml.{Lft}
 use denote.Ref.{NamedLft, ShrRef}
-use denote.Struct.Struct.{Struct}
+use denote.Struct.Struct.{Shape, Struct}
 use denote.RattleType.{RattleType}
 use denote.Param.Send.{IsSend, IsSync, sendable, shr_sync, struct_sync}
 use Rattle.std.proofs.Crossing.{crosses}
@@ -22,22 +22,11 @@ use Rattle.crew.specs.contracts.layer_run.Exploration as Exploration
 use Rattle.crew.specs.contracts.layer_run.LayerRun as LayerRun
 
 -- a reference, as a closure holds it
-pub one_lent : (long : Lft) (A : RattleType) → IsSync A
-    → IsSync
-    (Struct record {
-      name = [];
-      args = [];
-      types = [];
-      fields = ShrRef (named 0) long A ∷ [];
-    })
-one_lent long A a =
-    struct_sync record {
-      name = [];
-      args = [];
-      types = [];
-      fields = ShrRef (named 0) long A ∷ [];
-    }
-    (shr_sync (named 0) long A a, tt)
+abbrev lent : Lft → RattleType → Shape
+lent long A = record { name = []; args = []; types = []; fields = ShrRef (named 0) long A ∷ [] }
+
+pub one_lent : (long : Lft) (A : RattleType) → IsSync A → IsSync (Struct (lent long A))
+one_lent long A a = struct_sync (lent long A) (shr_sync (named 0) long A a, tt)
 
 program_sync : IsSync Program.the_row
 program_sync = search (sendable, crosses) depth 30

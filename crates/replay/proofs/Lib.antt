@@ -1,6 +1,6 @@
 pub mod Text
-mod BookFile
+pub mod BookFile
 mod Either
-mod Stopping
+pub mod Stopping
 mod Loans
 mod Answered

@@ -1,8 +1,9 @@
 -- What a test that decides which states count as one finds new is what is new.
-use Rattle.std.proofs.Common.{◌≡◌, ℕ, suc, ◌+◌, ◌<◌, inl, inr, true, false, Some, List, [], ◌∷◌, ◌++◌, length, map}
+use Rattle.std.proofs.Common.{◌≡◌, ℕ, suc, ◌+◌, ◌<◌, inl, inr, true, Some, List, [], ◌∷◌, ◌++◌, length, map}
 use Rattle.std.proofs.Common.{refl, sym, ap, ◌∙◌, slice_get, Bool}
+use Rattle.std.specs.Prelude.{◌↔◌}
 use Rattle.std.proofs.lemmas.Bool.{false_from_ne_true, true_from_ne_false, true≢false, cases_Bool}
-use Rattle.tree_machine.proofs.Lists.{get-append_cases}
+use Rattle.replay.proofs.BookFile.Replayed.{last_item_or}
 use Rattle.book.specs.declared.successor.Successor.{Successor}
 use Rattle.book.specs.declared.entry.Mark.TheVariants.{Expanded}
 use Rattle.replay.specs.declared.finding.Finding.{Finding}
@@ -10,7 +11,7 @@ use Rattle.replay.specs.Schedule.{AreOneBy, StepMachine, IsDecided}
 use Rattle.book.specs.Entries.{AreNew, Contents, Enters, IsFullFor, Knows, Steps, opened, states, with_mark}
 use Rattle.book.specs.Law.{IsExpansion, IsLawfulBook}
 use Rattle.book.specs.Unknown.{knows, unknown, with_successors}
-use Rattle.book.proofs.Unknown.{at-states, get-cons_cases, list_any-false, list_any-true}
+use Rattle.book.proofs.Unknown.{at-states, list_any-false, list_any-true}
 
 module _ {S : Type 0} {m : StepMachine S} {Same : S → S → Type 0} (test : IsDecided m Same) where
   -- every one of the states fits
@@ -20,39 +21,29 @@ module _ {S : Type 0} {m : StepMachine S} {Same : S → S → Type 0} (test : Is
   abbrev StepsFit : List (Successor S) → Type 0
   StepsFit xs = (k : ℕ) (x : Successor S) → slice_get xs k ≡ Some x → m.Fits x.state
 
-  is_known : (known : List S) (s : S) → AllFit known → m.Fits s → Knows Same known s → knows test.0 known s ≡ true
-  is_known known s fit fits there =
-      true_from_ne_false (knows test.0 known s) (λ f. true≢false
-      (sym ((test.2 there.1 s (fit there.0 there.1 there.2) fits).1 there.3)
-      ∙ list_any-false (λ (r : S). test.0 r s) known f there.0 there.1 there.2))
-
-  is_unknown : (known : List S) (s : S) → AllFit known → m.Fits s → (Knows Same known s → ⊥)
-      → knows test.0 known s ≡ false
-  is_unknown known s fit fits new =
-      false_from_ne_true (knows test.0 known s) (λ t.
-      let there = list_any-true (λ (r : S). test.0 r s) known t in
-      new (there.0, there.1, there.2, (test.2 there.1 s (fit there.0 there.1 there.2) fits).0 there.3))
-
-  one_more_fits : (known : List S) (s : S) → AllFit known → m.Fits s → AllFit (known ++ s ∷ [])
-  one_more_fits known s fit fits k r at =
-      elim (get-append_cases known (s ∷ []) k r at) [
-        | inl l ↦ fit k r l
-        | inr n ↦ elim (get-cons_cases s [] n.0 r n.2) [
-          | inl here ↦ rw here.1 at fits
-          | inr past ↦ absurd (cc past.2)
-        ]
-      ]
+  knows_it : (known : List S) (s : S) → AllFit known → m.Fits s
+      → (knows test.0 known s ≡ true) ↔ Knows Same known s
+  knows_it known s fit fits = (
+    (λ yes.
+        let there = list_any-true (λ (r : S). test.0 r s) known yes in
+        (there.0, there.1, there.2, (test.2 there.1 s (fit there.0 there.1 there.2) fits).0 there.3)),
+    (λ there. true_from_ne_false (knows test.0 known s) (λ no. true≢false
+        (sym ((test.2 there.1 s (fit there.0 there.1 there.2) fits).1 there.3)
+        ∙ list_any-false (λ (r : S). test.0 r s) known no there.0 there.1 there.2))),
+  )
 
   pub unknown_of : (known : List S) (xs added : List (Successor S)) → AllFit known → StepsFit xs
       → AreNew Same known xs added → added ≡ unknown test.0 known xs
   unknown_of known [] added fit fits new = new
   unknown_of known (x ∷ xs) added fit fits (inl old) =
-      rw (is_known known x.state fit (fits 0 x refl) old.0)
+      rw ((knows_it known x.state fit (fits 0 x refl)).1 old.0)
       (unknown_of known xs added fit (λ k y at. fits (suc k) y at) old.1)
   unknown_of known (x ∷ xs) added fit fits (inr new) =
-      rw (is_unknown known x.state fit (fits 0 x refl) new.0)
+      rw (false_from_ne_true (knows test.0 known x.state)
+      (λ yes. new.0 ((knows_it known x.state fit (fits 0 x refl)).0 yes)))
       (new.1.1 ∙ ap (λ rest. x ∷ rest)
-      (unknown_of (known ++ x.state ∷ []) xs new.1.0 (one_more_fits known x.state fit (fits 0 x refl))
+      (unknown_of (known ++ x.state ∷ []) xs new.1.0
+      (last_item_or (λ _ s. m.Fits s) known x.state fit (fits 0 x refl))
       (λ k y at. fits (suc k) y at) new.1.2))
 
   module _ {X : Type 0} {right : S → Finding → Type 0} {b : Contents X S}

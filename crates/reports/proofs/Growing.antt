@@ -1,10 +1,8 @@
 -- What the steps of one more entry show of the entries and of the number of states.
 use Rattle.std.proofs.Common.{◌≡◌, ◌≢◌, ℕ, ◌+◌, ◌<◌, ◌≤◌, inl, inr, Bool, Some, List, [], ◌∷◌, ◌++◌, length, map, sym}
-use Rattle.std.proofs.Common.{ap, ◌∙◌, arith, slice_get, length-append, leb}
+use Rattle.std.proofs.Common.{ap, ◌∙◌, arith, slice_get, length-append}
 use Rattle.std.proofs.Math.ListN.{length-map}
 use Rattle.std.proofs.lemmas.List.{length_push}
-use Rattle.std.proofs.lemmas.List.Sums.{count_by-le-length}
-use Rattle.std.proofs.lemmas.Option.{slice_get_within}
 use Rattle.tree_machine.proofs.Lists.{get-append_cases, get-map}
 use Rattle.book.specs.declared.successor.Successor.{Successor}
 use Rattle.replay.specs.declared.finding.Finding.{Finding}
@@ -14,15 +12,14 @@ use Rattle.replay.specs.Schedule.{AreOneBy, StepMachine, IsMachine, Merges, IsRe
 use Rattle.book.specs.Entries.{Entry, At, with_mark, opened, states}
 use Rattle.book.specs.Unknown.{with_successors, unknown}
 use Rattle.book.specs.Law.{IsLawful, IsExpansion}
-use Rattle.book.specs.Layers.{IsShallow, IsExpandedBelow}
-use Rattle.book.specs.Counts.{IsCount, IsMoreThan}
-use Rattle.book.proofs.EntryLemmas.{at-with_mark}
+use Rattle.book.specs.Layers.{IsShallow}
+use Rattle.book.specs.Counts.{IsMoreThan}
+use Rattle.book.proofs.EntryLemmas.{each-with_mark}
 use Rattle.book.proofs.Unknown.{at-states, unknown_is}
 use Rattle.replay.specs.Laws.Schedules.{run_push}
-use Rattle.book.proofs.Counts.{recorded, count_is, count_to_is}
-use Rattle.book.proofs.Ways.{steps_after}
+use Rattle.book.proofs.Counts.{recorded}
 use Rattle.reports.specs.Reading.{IsFresh}
-use Rattle.reports.proofs.Reaching.{count_above, joined_apart}
+use Rattle.reports.proofs.Reaching.{joined_apart}
 
 pub not_expanded : (k : Mark) → k ≡ Taken → k ≢ Expanded
 not_expanded k h e = let q : Taken ≡ Expanded = sym h ∙ e in cc
@@ -44,32 +41,31 @@ module _ {S : Type 0} {m : StepMachine S} {same : S → S → Bool} {right : S �
     new_steps : (k : ℕ) (y : Successor S) → slice_get (news xs) k ≡ Some y → m.step d.state y.thread ≡ Some y.state
     new_steps k y there = let w = unknown_is m same merges (states es) xs k y there in expansion.steps w.0.0 y w.0.1
 
+    -- what is so of the entry once it is expanded, of each other, and of those of its new steps is so of each
+    each_entered : (P : ℕ → Entry S → Type 0) → P i (record d { mark = Expanded })
+        → ((j : ℕ) (f : Entry S) → At es j f → P j f)
+        → ((j : ℕ) (y : Successor S) → m.step d.state y.thread ≡ Some y.state → P j (opened i y))
+        → (j : ℕ) (f : Entry S) → At (with_successors same es i xs) j f → P j f
+    each_entered P here other more j f there =
+        elim (get-append_cases (with_mark es i Expanded) (map (opened i) (news xs)) j f there) [
+          | inl l ↦ each-with_mark P es i Expanded (λ e at_i. let is : d ≡ e = cc (at, at_i) in rw (← is) here)
+              (λ k e at_k apart. other k e at_k) j f l
+          | inr r ↦ (
+              let y = get-map (opened i) (news xs) r.0 f r.2 in
+              rw y.2 (more j y.0 (new_steps r.0 y.0 y.1)))
+        ]
+
     -- no entry of the next layer is expanded, if none was
     pub fresh_entered : IsFresh m.steps es (n + 1) → IsFresh m.steps (with_successors same es i xs) (n + 1)
-    fresh_entered fresh j f there deep marked =
-        elim (get-append_cases (with_mark es i Expanded) (map (opened i) (news xs)) j f there) [
-          | inl l ↦ (
-              let o = at-with_mark es i Expanded j f l in
-              let state : f.state ≡ o.0.state = o.2.state in
-              elim o.3 [
-                | inl here ↦ (
-                    let e : d ≡ o.0 = cc (at, here.0, o.1) in
-                    absurd (omega (arith, ap m.steps state, ap (λ (x : Entry S). m.steps x.state) e)))
-                | inr other ↦ fresh j o.0 o.1 (rw state at deep) (cc (other.1, marked))
-              ])
-          | inr r ↦ (let y = get-map (opened i) (news xs) r.0 f r.2 in cc (y.2, marked))
-        ]
+    fresh_entered fresh =
+        each_entered (λ j f. m.steps f.state ≡ n + 1 → f.mark ≢ Expanded) (λ deep. absurd (omega arith)) fresh
+        (λ j y leads deep marked. cc (marked))
 
     -- no entry is deeper once the steps are entered
     pub shallow_entered : IsShallow m.steps (with_successors same es i xs) (n + 1)
-    shallow_entered j f there =
-        elim (get-append_cases (with_mark es i Expanded) (map (opened i) (news xs)) j f there) [
-          | inl l ↦ (let o = at-with_mark es i Expanded j f l in rw o.2.state (no_deeper j o.0 o.1))
-          | inr r ↦ (
-              let y = get-map (opened i) (news xs) r.0 f r.2 in
-              let up = machine.one_more d.state y.0.state y.0.thread (new_steps r.0 y.0 y.1) in
-              rw y.2 (omega (arith, up)))
-        ]
+    shallow_entered =
+        each_entered (λ j f. m.steps f.state ≤ n + 1) (omega arith) no_deeper
+        (λ j y leads. omega (arith, machine.one_more d.state y.state y.thread leads))
 
     all_reached : (k : ℕ) (x : S) → slice_get (all_states xs) k ≡ Some x → IsReachableWithin m (n + 1) x
     all_reached k x there =
@@ -98,20 +94,3 @@ module _ {S : Type 0} {m : StepMachine S} {same : S → S → Bool} {right : S �
           law.distinct j k a.0 b.0 a.1 b.1 (cc (a.2, b.2, h)));
       reached = all_reached;
     }
-
-  -- a book that is expanded below n has an entry for each state of at most n steps, so these are no more than its
-  -- entries
-  pub not_above : {n limit : ℕ} → IsExpandedBelow m.steps es n → length es ≤ limit → (j : ℕ) → j ≤ n
-      → IsMoreThan m (AreOneBy same) j limit → ⊥
-  not_above done room j le more =
-      let count = count_to_is m same right machine merges es law j (λ i e at less. done i e at (omega arith))
-      (λ s c leads. steps_after m machine c s leads) in
-      omega (arith, count_above merges count more, count_by-le-length (λ (e : Entry S). leb (m.steps e.state) j) es)
-
-  -- where no entry has more than n steps, all entries count the states of at most n steps
-  pub count_all : (n : ℕ) → IsExpandedBelow m.steps es n → IsShallow m.steps es n
-      → IsCount m (AreOneBy same) n (length es)
-  count_all n done shallow =
-      count_is m same right machine merges es law n (length es) done (omega arith)
-      (λ i e at _. shallow i e at) (λ i e at _. slice_get_within es i e at)
-      (λ s c leads. steps_after m machine c s leads)

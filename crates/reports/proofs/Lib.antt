@@ -2,7 +2,6 @@ pub mod Counting
 pub mod Soundness
 pub mod Growing
 pub mod Decided
-pub mod Answers
 pub mod Ends
 pub mod Drives
 pub mod Reports

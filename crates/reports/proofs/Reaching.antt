@@ -1,58 +1,55 @@
 -- For each number of steps there is a number of states that they reach.
-use Rattle.std.proofs.Common.{◌≡◌, ℕ, zero, suc, ◌+◌, ◌<◌, ◌⊎◌, inl, inr, Bool, true, Option, Some, None, List, []}
-use Rattle.std.proofs.Common.{◌∷◌, ◌++◌, length, map, refl, sym, ap, ◌∙◌, arith, slice_get, ◌≢◌, ◌≤◌}
-use Rattle.std.specs.Option.{option_and_then}
-use Rattle.std.proofs.lemmas.Bool.{true≢false, cases_eq}
-use Rattle.std.proofs.lemmas.Option.{option_and_then_some, slice_get_within}
-use Rattle.tree_machine.proofs.Lists.{get-append_cases, get-append_left, get-append_right, get-map, map-get}
+use Rattle.std.proofs.Common.{◌≡◌, ℕ, zero, suc, ◌<◌, ◌≤◌, ◌≢◌, inl, inr, Bool, true, false, Option, Some, None, List, []}
+use Rattle.std.proofs.Common.{◌∷◌, ◌++◌, length, map, refl, sym, ap, ◌∙◌, arith, slice_get, get_or, Contains}
+use Rattle.std.specs.Cmp.{IsEquivalence}
+use Rattle.std.specs.List.{list_any}
+use Rattle.std.proofs.lemmas.Bool.{true≢false, cases_eq, false_from_ne_true, true_from_ne_false}
+use Rattle.std.proofs.lemmas.List.Elements.{Contains-append_left, Contains-append_right, Contains-append_cases}
+use Rattle.std.proofs.lemmas.Map.Keys.{IsDistinct-from_apart}
+use Rattle.std.proofs.lemmas.Map.Made.{length-le_from_is_member}
+use Rattle.std.proofs.lemmas.Option.{option_and_then_some, slice_get-get_or}
+use Rattle.lin.proofs.Lists.{Contains-cases, Contains-slice_get, not-Contains-nil, slice_get-Contains}
+use Rattle.tree_machine.proofs.Lists.{get-append_cases, get-map, map-get}
 use Rattle.book.specs.declared.successor.Successor.{Successor}
 use Rattle.replay.specs.declared.finding.Finding.TheVariants.{Astray}
-use Rattle.replay.specs.Schedule.{AreOneBy, StepMachine, IsMachine, Merges, run}
+use Rattle.replay.specs.Schedule.{AreOneBy, StepMachine, IsMachine, IsReachableWithin, Merges, run}
 use Rattle.book.specs.Unknown.{unknown}
-use Rattle.book.specs.Counts.{IsCount, IsMoreThan}
-use Rattle.book.proofs.Unknown.{unknown_is, unknown_apart, known_or_kept, list_any-false}
-use Rattle.reports.specs.Due.{IsAbove}
-use Rattle.std.specs.List.{remove}
-use Rattle.std.proofs.lemmas.List.Edits.{length-remove}
+use Rattle.book.specs.Counts.{IsCount}
+use Rattle.book.proofs.Unknown.{unknown_is, unknown_apart, known_or_kept, list_any-false, list_any-true}
 
--- ---- states no two of which count as one are no more than states that stand for each of them
-
-module _ {S : Type 0} where
-  -- where an element goes, another is still there
-  remove_keeps : (xs : List S) (i j : ℕ) (x : S) → i ≢ j → slice_get xs j ≡ Some x
-      → (k : ℕ) × (slice_get (remove xs i) k ≡ Some x)
-  remove_keeps [] i j x other at = absurd (cc)
-  remove_keeps (w ∷ xs) zero zero x other at = absurd (other refl)
-  remove_keeps (w ∷ xs) zero (suc j) x other at = (j, at)
-  remove_keeps (w ∷ xs) (suc i) zero x other at = (0, at)
-  remove_keeps (w ∷ xs) (suc i) (suc j) x other at =
-      let r = remove_keeps xs i j x (λ e. other (ap suc e)) at in (suc r.0, r.1)
+same_test : (a b : Bool) → (a ≡ true → b ≡ true) → (b ≡ true → a ≡ true) → a ≡ b
+same_test true b there back = sym (there refl)
+same_test false true there back = back refl
+same_test false false there back = refl
 
 module _ {S : Type 0} {m : StepMachine S} {same : S → S → Bool} (merges : Merges m same) where
-  crowd : (ys xs : List S)
-      → ((i j : ℕ) (x y : S) → slice_get ys i ≡ Some x → slice_get ys j ≡ Some y → same x y ≡ true → i ≡ j)
-      → ((j : ℕ) (y : S) → slice_get ys j ≡ Some y → (i : ℕ) × (x : S) × (slice_get xs i ≡ Some x) × (same x y ≡ true))
-      → length ys ≤ length xs
-  crowd [] xs apart covered = omega arith
-  crowd (y ∷ ys) xs apart covered =
-      let first = covered 0 y refl in
-      let rest : length ys ≤ length (remove xs first.0) = crowd ys (remove xs first.0)
-      (λ i j v w at_i at_j h. omega (arith, apart (suc i) (suc j) v w at_i at_j h))
-      (λ j w at. let c = covered (suc j) w at in
-      elim (cases_eq first.0 c.0) [
-        | inl e ↦ absurd (
-            let is : first.1 ≡ c.1 = cc (first.2, c.2) in
-            let both = merges.joined y first.1 w (merges.turned first.1 y first.3) (rw is c.3) in
-            omega (arith, apart 0 (suc j) y w refl at both))
-        | inr n ↦ (let k = remove_keeps xs first.0 c.0 c.1 n c.2 in (k.0, c.1, k.1, c.3))
-      ]) in
-      omega (arith, length-remove xs first.0 (slice_get_within xs first.0 first.1 first.2))
+  laws : IsEquivalence same
+  laws = record {
+    refl = merges.itself;
+    symm = (λ x y. same_test (same x y) (same y x) (merges.turned x y) (merges.turned y x));
+    congr = (λ x y z one. same_test (same x z) (same y z) (merges.joined y x z (merges.turned x y one))
+        (merges.joined x y z one));
+  }
 
-  -- where more than l states are reached, the number of states is more than l
-  pub count_above : {n k l : ℕ} → IsCount m (AreOneBy same) n k → IsMoreThan m (AreOneBy same) n l → l < k
-  count_above count more =
-      let le = crowd more.states count.states more.apart (λ j y at. count.all y (more.reached j y at)) in
-      omega (arith, le, count.many, more.many)
+  -- states that n steps reach, no two of which count as one, are at most as many as n steps reach
+  pub at_most : {n k : ℕ} → IsCount m (AreOneBy same) n k → (ys : List S)
+      → ((i j : ℕ) (x y : S) → slice_get ys i ≡ Some x → slice_get ys j ≡ Some y → same x y ≡ true → i ≡ j)
+      → ((i : ℕ) (x : S) → slice_get ys i ≡ Some x → IsReachableWithin m n x) → length ys ≤ k
+  at_most count ys apart reached =
+      let distinct = IsDistinct-from_apart same ys (λ i j d less within.
+      false_from_ne_true (same (get_or ys i d) (get_or ys j d)) (λ one.
+      omega (
+        arith,
+        apart i j (get_or ys i d) (get_or ys j d) (slice_get-get_or ys i d (omega arith))
+            (slice_get-get_or ys j d within) one,
+      ))) in
+      let fewer = length-le_from_is_member laws ys count.states distinct (λ q among.
+      let y = list_any-true (same q) ys among in
+      let x = count.all y.1 (reached y.0 y.1 y.2) in
+      let one = merges.joined q y.1 x.1 y.3 (merges.turned x.1 y.1 x.3) in
+      true_from_ne_false (list_any (same q) count.states) (λ none.
+      true≢false (sym one ∙ list_any-false (same q) count.states none x.0 x.1 x.2))) in
+      omega (arith, fewer, count.many)
 
 module _ {S : Type 0} (m : StepMachine S) (same : S → S → Bool) (merges : Merges m same) (known : List S)
     (xs : List (Successor S)) where
@@ -86,88 +83,73 @@ module _ {S : Type 0} (m : StepMachine S) (same : S → S → Bool) (merges : Me
         ]
       ]
 
--- a list of just those of which P holds
-record Listed {S : Type 0} (P : S → Type 0) : Type 0 where
-  items : List S
-  are : (i : ℕ) (x : S) → slice_get items i ≡ Some x → P x
-  all : (x : S) → P x → (i : ℕ) × (slice_get items i ≡ Some x)
+-- ---- the states that schedules reach
 
-listed_both : {S : Type 0} {P Q R : S → Type 0} → Listed P → Listed Q → ((x : S) → P x → R x) → ((x : S) → Q x → R x)
-    → ((x : S) → R x → P x ⊎ Q x) → Listed R
-listed_both p q left right cases = record {
-  items = p.items ++ q.items;
-  are = (λ i x at. elim (get-append_cases p.items q.items i x at) [
-    | inl l ↦ left x (p.are i x l)
-    | inr r ↦ right x (q.are r.0 x r.2)
-  ]);
-  all = (λ x h. elim (cases x h) [
-    | inl l ↦ (let w = p.all x l in (w.0, get-append_left p.items q.items w.0 x w.1))
-    | inr r ↦ (let w = q.all x r in (length p.items + w.0, get-append_right p.items q.items w.0 x w.1))
-  ]);
-}
+module _ {S : Type 0} (m : StepMachine S) where
+  -- the states that some steps from r lead to: none, or one by a thread below k, and then `later`
+  abbrev through : (S → List S) → Option S → List S
+  through later None = []
+  through later (Some u) = later u
 
-listed_none : {S : Type 0} {P : S → Type 0} → ((x : S) → P x → ⊥) → Listed P
-listed_none none = record { items = []; are = (λ i x at. absurd (cc)); all = (λ x h. absurd (none x h)) }
+  abbrev by_threads : (S → List S) → S → ℕ → List S
+  by_threads later r zero = r ∷ []
+  by_threads later r (suc k) = by_threads later r k ++ through later (m.step r k)
 
-listed_one : {S : Type 0} (r : S) → Listed (λ x. r ≡ x)
-listed_one r = record {
-  items = r ∷ [];
-  are = first;
-  all = (λ x e. (0, ap Some e));
-}
-  where
-    first : (i : ℕ) (x : _) → slice_get (r ∷ []) i ≡ Some x → r ≡ x
-    first zero x at = cc
-    first (suc i) x at = cc
+  -- those that at most n steps lead to
+  abbrev near : ℕ → S → List S
+  near zero r = r ∷ []
+  near (suc n) r = by_threads (near n) r m.threads
 
-module _ {S : Type 0} (m : StepMachine S) (machine : IsMachine m) where
-  -- a schedule of fewer than n steps leads from r to the state
   abbrev Reaches : ℕ → S → S → Type 0
-  Reaches n r x = (c : List ℕ) × (length c < n) × (run m r c ≡ Some x)
+  Reaches n r x = (c : List ℕ) × (length c ≤ n) × (run m r c ≡ Some x)
 
-  -- so does one after a step of a thread below k
-  abbrev ReachesBy : ℕ → S → ℕ → S → Type 0
-  ReachesBy n r k x = (t : ℕ) × (u : S) × (t < k) × (m.step r t ≡ Some u) × Reaches n u x
+  only : (n : ℕ) (r x : S) → Contains (r ∷ []) x → Reaches n r x
+  only n r x among = elim (Contains-cases r [] x among) [
+    | inl e ↦ ([], omega arith, ap Some e)
+    | inr none ↦ absurd (not-Contains-nil x none)
+  ]
 
-  by_thread : (n : ℕ) (r : S) (k : ℕ) (o : Option S) → m.step r k ≡ o → ((u : S) → Listed (Reaches n u))
-      → Listed (λ x. (u : S) × (m.step r k ≡ Some u) × Reaches n u x)
-  by_thread n r k None is each = listed_none (λ x w. cc (is, w.1))
-  by_thread n r k (Some u) is each = record {
-    items = (each u).items;
-    are = (λ i x at. (u, is, (each u).are i x at));
-    all = (λ x w. let same_end : w.0 ≡ u = cc (is, w.1) in (each u).all x (rw same_end at w.2));
-  }
-
-  by_threads : (n : ℕ) (r : S) (k : ℕ) → ((u : S) → Listed (Reaches n u)) → Listed (ReachesBy n r k)
-  by_threads n r zero each = listed_none (λ x w. omega (arith, w.2))
-  by_threads n r (suc k) each =
-      listed_both (by_thread n r k (m.step r k) refl each) (by_threads n r k each)
-      (λ x w. (k, w.0, omega arith, w.1, w.2))
-      (λ x w. (w.0, w.1, omega (arith, w.2), w.3, w.4))
-      (λ x w. elim (cases_eq w.0 k) [
-        | inl same ↦ inl (w.1, rw same at w.3, w.4)
-        | inr other ↦ inr (w.0, w.1, omega (arith, w.2, other), w.3, w.4)
-      ])
-
-  listed : (n : ℕ) (r : S) → Listed (Reaches n r)
-  listed zero r = listed_none (λ x w. omega (arith, w.1))
-  listed (suc n) r =
-      listed_both (listed_one r) (by_threads n r m.threads (listed n))
-      (λ x e. ([], omega arith, ap Some e))
-      (λ x w. (
-        w.0 ∷ w.4.0,
-        omega (arith, w.4.1),
-        ap (λ o. option_and_then (λ (v : S). run m v w.4.0) o) w.3 ∙ w.4.2,
-      ))
-      (λ x w. first_step n r x w.0 w.1 w.2)
+  of_threads : (n : ℕ) (later : S → List S) → ((u x : S) → Contains (later u) x → Reaches n u x) → (r x : S) (k : ℕ)
+      → Contains (by_threads later r k) x → Reaches (suc n) r x
+  of_threads n later each r x zero among = only (suc n) r x among
+  of_threads n later each r x (suc k) among =
+      elim (Contains-append_cases (by_threads later r k) (through later (m.step r k)) x among) [
+        | inl before ↦ of_threads n later each r x k before
+        | inr here ↦ taken (m.step r k) refl here
+      ]
     where
-      first_step : (n : ℕ) (r x : S) (c : List ℕ) → length c < suc n → run m r c ≡ Some x
-          → (r ≡ x) ⊎ ReachesBy n r m.threads x
-      first_step n r x [] short leads = inl cc
-      first_step n r x (t ∷ c) short leads =
-          inr (option_and_then_some (λ (v : S). run m v c) (m.step r t) x leads
-          (λ (u : S) (first : m.step r t ≡ Some u) (rest : run m u c ≡ Some x).
-          (t, u, machine.is_thread r u t first, first, (c, omega arith, rest))))
+      taken : (o : Option S) → m.step r k ≡ o → Contains (through later o) x → Reaches (suc n) r x
+      taken None is here = absurd (not-Contains-nil x here)
+      taken (Some u) is here = let (c, short, leads) = each u x here in (k ∷ c, omega arith, rw is leads)
+
+  near_reached : (n : ℕ) (r x : S) → Contains (near n r) x → Reaches n r x
+  near_reached zero r x among = only zero r x among
+  near_reached (suc n) r x among = of_threads n (near n) (near_reached n) r x m.threads among
+
+  no_step : (later : S → List S) (r : S) (k : ℕ) → Contains (by_threads later r k) r
+  no_step later r zero = Contains-slice_get (r ∷ []) 0 r refl
+  no_step later r (suc k) =
+      Contains-append_left (by_threads later r k) (through later (m.step r k)) r (no_step later r k)
+
+  first_step : (later : S → List S) (r u x : S) (t : ℕ) → m.step r t ≡ Some u → Contains (later u) x → (k : ℕ) → t < k
+      → Contains (by_threads later r k) x
+  first_step later r u x t is among zero below = absurd (omega arith)
+  first_step later r u x t is among (suc k) below =
+      elim (cases_eq t k) [
+        | inl same ↦ Contains-append_right (by_threads later r k) (through later (m.step r k)) x (rw (← same, is) among)
+        | inr other ↦ Contains-append_left (by_threads later r k) (through later (m.step r k)) x
+            (first_step later r u x t is among k (omega arith))
+      ]
+
+  near_all : IsMachine m → (n : ℕ) (r x : S) → Reaches n r x → Contains (near n r) x
+  near_all machine zero r x ([], short, leads) = Contains-slice_get (r ∷ []) 0 x leads
+  near_all machine zero r x (t ∷ c, short, leads) = absurd (omega arith)
+  near_all machine (suc n) r x ([], short, leads) = let e : r ≡ x = cc in rw (← e) (no_step (near n) r m.threads)
+  near_all machine (suc n) r x (t ∷ c, short, leads) =
+      option_and_then_some (λ (v : S). run m v c) (m.step r t) x leads
+      (λ (u : S) (first : m.step r t ≡ Some u) (rest : run m u c ≡ Some x).
+      first_step (near n) r u x t first (near_all machine n u x (c, omega arith, rest)) m.threads
+      (machine.is_thread r u t first))
 
 -- a successor of the state
 abbrev successor : {S : Type 0} → S → Successor S
@@ -176,12 +158,12 @@ successor s = record { thread = 0; state = s; finding = Astray }
 module _ {S : Type 0} {m : StepMachine S} {same : S → S → Bool} (machine : IsMachine m) (merges : Merges m same) where
   -- the states that n steps reach, as those of successors
   abbrev steps : ℕ → List (Successor S)
-  steps n = map successor (listed m machine (suc n) m.start).items
+  steps n = map successor (near m n m.start)
 
   -- n steps reach some number of states
-  count_of : (n : ℕ) → IsCount m (AreOneBy same) n (length (fresh m same merges [] (steps n)))
+  pub count_of : (n : ℕ) → IsCount m (AreOneBy same) n (length (fresh m same merges [] (steps n)))
   count_of n =
-      let all = listed m machine (suc n) m.start in
+      let all = near m n m.start in
       let news = unknown same [] (steps n) in
       record {
         states = fresh m same merges [] (steps n);
@@ -190,30 +172,13 @@ module _ {S : Type 0} {m : StepMachine S} {same : S → S → Bool} (machine : I
         reached = (λ i x at.
             let y = get-map (λ (z : Successor S). z.state) news i x at in
             let u = (unknown_is m same merges [] (steps n) i y.0 y.1).0 in
-            let s = get-map successor all.items u.0 y.0 u.1 in
-            let way = all.are u.0 s.0 s.1 in
+            let s = get-map successor all u.0 y.0 u.1 in
             let is : s.0 ≡ x = cc (y.2, s.2) in
-            (way.0, omega (arith, way.1), way.2 ∙ ap Some is));
+            near_reached m n m.start x (rw is at (Contains-slice_get all u.0 s.0 s.1)));
         all = (λ s way.
-            let w = all.all s (way.0, omega (arith, way.1), way.2) in
-            elim (known_or_kept m same merges [] (steps n) w.0 (successor s) (map-get successor all.items w.0 s w.1)) [
+            let w = slice_get-Contains all s (near_all m machine n m.start s way) in
+            elim (known_or_kept m same merges [] (steps n) w.0 (successor s) (map-get successor all w.0 s w.1)) [
               | inl old ↦ absurd (true≢false (sym old))
               | inr new ↦ (new.0, new.1.state, map-get (λ (z : Successor S). z.state) news new.0 new.1 new.2, new.3)
             ]);
       }
-
-  -- where more than `limit` states are reached, their number is above `limit`
-  pub more_above : {limit n : ℕ} → IsMoreThan m (AreOneBy same) n limit → IsAbove m (AreOneBy same) limit n
-  more_above {limit} {n} more = (_, count_of n, count_above merges (count_of n) more)
-
--- and the other way round
-pub above_more : {S : Type 0} {m : StepMachine S} {same : S → S → Bool} {limit n : ℕ}
-    → IsAbove m (AreOneBy same) limit n → IsMoreThan m (AreOneBy same) n limit
-above_more above =
-    let count = above.1 in
-    record {
-      states = count.states;
-      many = omega (arith, count.many, above.2);
-      apart = count.apart;
-      reached = count.reached;
-    }

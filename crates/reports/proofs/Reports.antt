@@ -4,10 +4,9 @@ use Rattle.sched_program.specs.Program.{Program}
 use Rattle.tree_machine.specs.Rules.{Rules}
 use Rattle.tree_machine.specs.declared.state.State.{State}
 use Rattle.book.specs.declared.book.Totals.{Totals}
-use Rattle.replay.specs.Schedule.{AreOneBy, IsDecided, IsMachine}
+use Rattle.replay.specs.Schedule.{IsDecided, IsMachine}
 use Rattle.book.specs.Entries.{Contents}
 use Rattle.book.specs.Books.{CountsAsOne, machine_in, right_in, totals_of}
-use Rattle.book.proofs.Agreeing.{turned}
 use Rattle.reports.specs.declared.answer.Answer.{Answer}
 use Rattle.reports.specs.declared.answer.Share.{Share}
 use Rattle.options.specs.Settings.{Settings}
@@ -16,7 +15,7 @@ use Rattle.reports.specs.Due.{IsDue, IsSameVerdict}
 use Rattle.reports.specs.Ledger.{ledger}
 use Rattle.reports.specs.Reading.{IsReadOff}
 use Rattle.reports.specs.Reporting.{IsBookOf, IsReport}
-use Rattle.reports.proofs.Verdicts.{due_as, one_verdict}
+use Rattle.reports.proofs.Verdicts.{one_verdict}
 
 -- shares that count what stands in a book sum to its totals
 sums_to : {X S : Type 0} (book : Contents X S) (each : List Share) → IsLedgerOf book (ledger each)
@@ -42,12 +41,8 @@ module _ {X Memory Place Form : Type 0} (rules : X → Rules Memory Place) (mach
   only_here : (answer : Answer) → IsDueIn (length book.entries) answer → (count : ℕ) (other : Answer)
       → IsDueIn count other → IsSameVerdict (length book.entries) answer count other
   only_here answer due count other also =
-      let by_test =
-      due_as keeps (CountsAsOne (rules book.machine) book.merge) (AreOneBy test.0)
-      (turned (machine_in rules book) keeps (AreOneBy test.0) (CountsAsOne (rules book.machine) book.merge) test.2)
-      (right_in rules book) book.merge settings.steps book.limit in
-      one_verdict test.1 (right_in rules book) book.merge settings.steps book.limit (length book.entries) count answer
-      other (by_test (length book.entries) answer due) (by_test count other also)
+      one_verdict keeps test (right_in rules book) book.merge settings.steps book.limit (length book.entries) count answer
+      other due also
 
   -- what was read off the book that was asked for makes a report
   pub reported : (read : Contents X (State X Memory Place Form)) (answer : Answer) (counts : Totals)

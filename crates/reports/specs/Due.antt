@@ -56,15 +56,4 @@ IsSameVerdict count (answer.Fault finding schedule) other (answer.Fault other_fi
     (length schedule.items ≡ length other_schedule.items) × (count ≡ other)
 IsSameVerdict count (answer.Holds steps) other (answer.Holds other_steps) = (steps ≡ other_steps) × (count ≡ other)
 IsSameVerdict count answer.Every other answer.Every = count ≡ other
-IsSameVerdict count (answer.Stopped limit holds_to) other (answer.Fault finding schedule) = ⊥
-IsSameVerdict count (answer.Stopped limit holds_to) other (answer.Holds steps) = ⊥
-IsSameVerdict count (answer.Fault finding schedule) other (answer.Stopped limit holds_to) = ⊥
-IsSameVerdict count (answer.Fault finding schedule) other (answer.Holds steps) = ⊥
-IsSameVerdict count (answer.Holds steps) other (answer.Stopped limit holds_to) = ⊥
-IsSameVerdict count (answer.Holds steps) other (answer.Fault finding schedule) = ⊥
-IsSameVerdict count answer.Every other (answer.Stopped limit holds_to) = ⊥
-IsSameVerdict count answer.Every other (answer.Fault finding schedule) = ⊥
-IsSameVerdict count answer.Every other (answer.Holds steps) = ⊥
-IsSameVerdict count (answer.Stopped limit holds_to) other answer.Every = ⊥
-IsSameVerdict count (answer.Fault finding schedule) other answer.Every = ⊥
-IsSameVerdict count (answer.Holds steps) other answer.Every = ⊥
+IsSameVerdict count _ other _ = ⊥

@@ -1,6 +1,5 @@
 -- What labels tell of alike states.
-use Rattle.std.proofs.Common.{◌≡◌, ℕ, suc, ◌+◌, ◌<◌, inr, Some, Option, List, [], ◌∷◌, ◌++◌, length, Contains}
-use Rattle.std.proofs.Common.{refl}
+use Rattle.std.proofs.Common.{◌≡◌, ℕ, suc, ◌+◌, ◌<◌, inr, Some, Option, List, [], ◌∷◌, ◌++◌, length, Contains, refl}
 use Rattle.std.proofs.Common.{arith, slice_get}
 use borrow.Author.Count.{below_more}
 use Rattle.std.proofs.lemmas.List.Elements.{Contains-append_left}

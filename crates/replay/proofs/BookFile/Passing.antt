@@ -8,8 +8,6 @@ use Rattle.tree_machine.specs.declared.state.State.{State}
 use Rattle.tree_machine.proofs.Alike.{alike_history}
 use Rattle.tree_machine.proofs.Forms.{alike_through}
 use Rattle.replay.specs.Findings.{machine_of}
-use Rattle.replay.specs.Schedule.{IsMachine}
-use Rattle.replay.specs.Closed.{AreClosed}
 use Rattle.replay.specs.Correct.{IsCorrect, HoldsAlways}
 use Rattle.replay.specs.Laws.Schedules.{covered}
 use Rattle.replay.specs.declared.file.line.BookLine.{BookLine}
@@ -32,44 +30,22 @@ module _ {Machine Memory Place Form : Type 0} (rules : Rules Memory Place) (prog
       (λ before line state all tells. shown_correct state line.order tells.1)
       (shown_correct (start rules program) [] so.0) lines states so
 
-  -- states that fit and are alike
-  abbrev AreTwins : State Machine Memory Place Form → State Machine Memory Place Form → Type 0
-  AreTwins r s = Fits rules program r × Fits rules program s × AreStatesAlike rules r s
-
 module _ {Machine Memory Place Form : Type 0} {rules : Rules Memory Place} {program : Program}
     (lawful : AreLawful rules) (limits : IsWithinLimits program) {form_of : Memory → List (Option Place) → Form}
     (forms : AreFormsExact rules form_of) where
-  runs : IsMachine (machine_of {Machine = Machine} {Form = Form} rules program)
-  runs = machine lawful limits
-
-  twins_joined : (r s u : State Machine Memory Place Form) → AreTwins rules program r s → AreTwins rules program s u
-      → AreTwins rules program r u
-  twins_joined r s u a b =
-      (a.0, b.1, alike_through rules form_of forms program r s a.0 a.1 u b.1 a.2 b.2)
-
   twins_step : (r s u : State Machine Memory Place Form) (t : ℕ) → Fits rules program r → Fits rules program s
-      → AreTwins rules program r s → step rules program s t ≡ Some u
-      → (v : State Machine Memory Place Form) × (step rules program r t ≡ Some v) × AreTwins rules program v u
+      → AreStatesAlike rules r s → step rules program s t ≡ Some u
+      → (v : State Machine Memory Place Form) × (step rules program r t ≡ Some v) × AreStatesAlike rules v u
   twins_step r s u t r_fits s_fits twins leads =
-      let v = step_there lawful forms r_fits s_fits twins.2 t u leads in
-      (v.0, v.1, (v.2, v.3, turned lawful forms v.3 v.2 v.4))
-
-  twins_closed : (states : List (State Machine Memory Place Form))
-      → AreClosed (machine_of rules program) (AreStatesAlike rules) states
-      → AreClosed (machine_of rules program) (AreTwins rules program) states
-  twins_closed states closed = record {
-    fit = closed.fit;
-    start = (let s = closed.start in (s.0, s.1, s.2, (closed.fit s.0 s.1 s.2, runs.start_fits, s.3)));
-    steps = (λ i t s r at leads.
-        let w = closed.steps i t s r at leads in
-        (w.0, w.1, w.2, (closed.fit w.0 w.1 w.2, runs.step_fits s r t (closed.fit i s at) leads, w.3)));
-  }
+      let v = step_there lawful forms r_fits s_fits twins t u leads in
+      (v.0, v.1, turned lawful forms v.3 v.2 v.4)
 
   pub passing_holds : (lines : List BookLine) → Pass Machine Form rules program lines
       → HoldsAlways Machine Form rules program
   passing_holds lines pass schedule state leads =
-      let w = covered (machine_of rules program) runs (AreTwins rules program) twins_joined twins_step pass.0
-      (twins_closed pass.0 pass.2) schedule state leads in
+      let w = covered (machine_of rules program) (machine lawful limits) (AreStatesAlike rules)
+      (λ r s u r_fits s_fits u_fits. alike_through rules form_of forms program r s r_fits s_fits u u_fits) twins_step
+      pass.0 pass.2 schedule state leads in
       let correct = replayed_correct rules program lines pass.0 pass.1 w.0 w.1 w.2 in
-      let well = well_there lawful program w.3.2 (correct.0, correct.1) in
-      (well.0, well.1, (correct.2.0, rw (← alike_history rules w.1 state w.3.2) correct.2.1))
+      let well = well_there lawful program w.3 (correct.0, correct.1) in
+      (well.0, well.1, (correct.2.0, rw (← alike_history rules w.1 state w.3) correct.2.1))

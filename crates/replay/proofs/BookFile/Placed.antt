@@ -1,9 +1,8 @@
 -- Labels of which equal ones are stored once.
-use Rattle.std.proofs.Common.{◌≡◌, ◌↔◌, ℕ, suc, ◌<◌, ◌≤◌, inl, inr, get_or, Bool, true, cond, Some}
+use Rattle.std.proofs.Common.{◌≡◌, ◌↔◌, ℕ, suc, ◌<◌, ◌≤◌, inl, inr, get_or, Bool, true, false, cond, Some}
 use Rattle.std.proofs.Common.{List, [], ◌∷◌, ◌++◌, length, append-nil, Contains, refl, sym, ap, ◌∙◌, arith, slice_get}
 use Rattle.std.specs.List.{list_any}
 use Rattle.std.specs.Cmp.{IsEquivalence}
-use Rattle.std.proofs.lemmas.Bool.{cases_cond}
 use Rattle.std.proofs.lemmas.List.{length-append, get_or_append_left, map-append}
 use Rattle.std.proofs.lemmas.List.Elements.{Contains-append_left, Contains-append_right, Contains-append_cases}
 use Rattle.std.proofs.lemmas.Map.Views.{list_any-from_Contains}
@@ -25,28 +24,29 @@ labels_stay distinct tail (place ∷ places) within =
     let rest = labels_stay distinct tail places (λ i p at. within (suc i) p at) in
     λ j. first j ∷ rest j
 
-module _ (distinct tail : List (List ℕ)) (places : List ℕ) (label : List ℕ) (place : ℕ)
-    (so : ArePlaced distinct places) (at : slice_get (distinct ++ tail) place ≡ Some label)
-    (only : (l : List ℕ) → Contains tail l → l ≡ label) (one : length tail ≤ 1) where
-  seen : labels_at (distinct ++ tail) (places ++ place ∷ []) ≡ labels_at distinct places ++ label ∷ []
-  seen =
-      map-append (λ p. get_or (distinct ++ tail) p []) places (place ∷ [])
-      ∙ (λ j. labels_stay distinct tail places so.within j
-      ++ get_or_from_slice_get (distinct ++ tail) place label [] at j ∷ [])
-
-  placed : ArePlaced (distinct ++ tail) (places ++ place ∷ [])
-  placed = record {
-    within = (λ i p there. last_item_or (λ _ (q : ℕ). q < length (distinct ++ tail)) places place
-        (λ j q here. omega (arith, so.within j q here, length-append distinct tail))
-        (slice_get_within (distinct ++ tail) place label at) i p there);
-    used = (λ l has. rw seen
-        (elim (Contains-append_cases distinct tail l has) [
+-- a label is put in behind those that are there, where `tail` has no other
+put_behind : (distinct tail : List (List ℕ)) (places : List ℕ) (label : List ℕ) (place : ℕ) → ArePlaced distinct places
+    → slice_get (distinct ++ tail) place ≡ Some label → ((l : List ℕ) → Contains tail l → l ≡ label) → length tail ≤ 1
+    → ArePlaced (distinct ++ tail) (places ++ place ∷ [])
+    × (labels_at (distinct ++ tail) (places ++ place ∷ []) ≡ labels_at distinct places ++ label ∷ [])
+put_behind distinct tail places label place so there only one =
+    let here = get_or_from_slice_get (distinct ++ tail) place label [] there in
+    let seen : labels_at (distinct ++ tail) (places ++ place ∷ []) ≡ labels_at distinct places ++ label ∷ [] =
+    map-append (λ p. get_or (distinct ++ tail) p []) places (place ∷ [])
+    ∙ (λ j. labels_stay distinct tail places so.within j ++ here j ∷ []) in (
+      record {
+        within = last_item_or (λ _ (q : ℕ). q < length (distinct ++ tail)) places place
+            (λ i q at. omega (arith, so.within i q at, length-append distinct tail))
+            (slice_get_within (distinct ++ tail) place label there);
+        used = (λ l has. rw seen (elim (Contains-append_cases distinct tail l has) [
           | inl h ↦ Contains-append_left (labels_at distinct places) (label ∷ []) l (so.used l h)
           | inr h ↦ Contains-append_right (labels_at distinct places) (label ∷ []) l
               (Contains-slice_get (label ∷ []) 0 l (ap Some (sym (only l h))))
         ]));
-    bounded = omega (arith, length-append distinct tail, length-append places (place ∷ []), so.bounded);
-  }
+        bounded = omega (arith, length-append distinct tail, length-append places (place ∷ []), so.bounded);
+      },
+      seen,
+    )
 
 -- a label is put in, unless it is there
 pub label_put : {distinct more : List (List ℕ)} {places : List ℕ} {label : List ℕ} (place : ℕ) (there : Bool)
@@ -54,27 +54,17 @@ pub label_put : {distinct more : List (List ℕ)} {places : List ℕ} {label : L
     → slice_get more place ≡ Some label
     → ArePlaced more (places ++ place ∷ [])
     × (labels_at more (places ++ place ∷ []) ≡ labels_at distinct places ++ label ∷ [])
-label_put {distinct} {more} {places} {label} place there is so at =
-    elim (cases_cond there distinct (distinct ++ label ∷ []) more is) [
-      | inl same ↦ behind [] (λ l none. absurd (not-Contains-nil l none)) (omega arith)
-          (append-nil distinct ∙ sym same)
-      | inr same ↦ behind (label ∷ []) only_one (omega arith) (sym same)
-    ]
-  where
-    only_one : (l : List ℕ) → Contains (label ∷ []) l → l ≡ label
-    only_one l has =
-        elim (Contains-cases label [] l has) [ inl one ↦ sym one | inr none ↦ absurd (not-Contains-nil l none) ]
-
-    behind : (tail : List (List ℕ)) → ((l : List ℕ) → Contains tail l → l ≡ label) → length tail ≤ 1
-        → distinct ++ tail ≡ more
-        → ArePlaced more (places ++ place ∷ [])
-        × (labels_at more (places ++ place ∷ []) ≡ labels_at distinct places ++ label ∷ [])
-    behind tail only one same =
-        let here : slice_get (distinct ++ tail) place ≡ Some label = rw same at in
-        rw (← same) (
-          placed distinct tail places label place so here only one,
-          seen distinct tail places label place so here only one,
-        )
+label_put {distinct} {more} {places} {label} place true is so here =
+    let same : distinct ++ [] ≡ more = append-nil distinct ∙ sym is in
+    rw (← same) (put_behind distinct [] places label place so (rw same here)
+    (λ l none. absurd (not-Contains-nil l none)) (omega arith))
+label_put {distinct} {more} {places} {label} place false is so here =
+    rw is (put_behind distinct (label ∷ []) places label place so (rw is at here)
+    (λ l has. elim (Contains-cases label [] l has) [
+      | inl one ↦ sym one
+      | inr none ↦ absurd (not-Contains-nil l none)
+    ])
+    (omega arith))
 
 module _ (eq : List ℕ → List ℕ → Bool) (laws : IsEquivalence eq) (exact : IsExact eq)
     (distinct : List (List ℕ)) (places : List ℕ) (so : ArePlaced distinct places) where

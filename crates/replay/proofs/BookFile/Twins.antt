@@ -56,6 +56,13 @@ pub well_there : {Machine Memory Place Form : Type 0} {rules : Rules Memory Plac
 well_there {rules} lawful program {s} {c} alike well =
     (sym alike.astray ∙ well.0, alike_ordered rules s c lawful alike well.1)
 
+-- and an order that shows the one shows the other
+pub shown_there : {Machine Memory Place Form : Type 0} {rules : Rules Memory Place} → AreLawful rules
+    → (program : Program) {s c : State Machine Memory Place Form} → AreStatesAlike rules s c → (order : List OpId)
+    → IsShown rules program s order → IsShown rules program c order
+shown_there {rules} lawful program {s} {c} alike order shown =
+    (well_there lawful program alike shown.0, rw (← alike_history rules s c alike) shown.1)
+
 module _ {Machine Memory Place Form : Type 0} {rules : Rules Memory Place} {program : Program}
     (lawful : AreLawful rules) {form_of : Memory → List (Option Place) → Form}
     (forms : AreFormsExact rules form_of) where
@@ -89,10 +96,7 @@ module _ {Machine Memory Place Form : Type 0} {rules : Rules Memory Place} {prog
         by None is = refl
         by (Some u) is = cc (none, (alike_step rules s c lawful alike program t u is).1)
 
-    -- an order that shows the one shows the other, and what it leaves amiss is the same
-    pub shown_there : (order : List OpId) → IsShown rules program s order → IsShown rules program c order
-    shown_there order shown = (well_there lawful program alike shown.0, rw (← alike_history rules s c alike) shown.1)
-
+    -- what an order leaves amiss is the same
     pub unshown_there : (order : List OpId) (number : ℕ) (fault : CheckFault)
         → IsUnshown rules program s order number fault → IsUnshown rules program c order number fault
     unshown_there order number fault (inl h) = inl (h.0, λ well. h.1 (well_there lawful program turned well))
@@ -193,7 +197,7 @@ module _ {Machine Memory Place Form : Type 0} {rules : Rules Memory Place} {prog
         → (u : State Machine Memory Place Form) × Tells rules program states line u × (label ≡ named_by code form_of u)
     step_passes code label labelled shown = (
       there.0,
-      (there.1, shown_there lawful forms there.3 there.2 there.4 line.order shown),
+      (there.1, shown_there lawful program there.4 line.order shown),
       labelled ∙ one_label lawful forms there.3 there.2 there.4 code,
     )
 

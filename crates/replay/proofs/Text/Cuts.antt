@@ -32,20 +32,22 @@ pub not_nil : {A : Type 0} (front : List A) (x : A) (rest : List A) → [] ≡ f
 not_nil [] x rest e = cc
 not_nil (b ∷ front) x rest e = cc
 
--- a line feed is none of the bytes that a line may have
-pub feed_fails : ¬ (let n : ℕ = 10 in n ≢ 10)
-feed_fails differs = differs refl
+-- what comes before the first byte that is `at`, and what follows it
+pub one_cut : (at : ℕ) (text tail other more : List ℕ) → text ++ at ∷ tail ≡ other ++ at ∷ more
+    → AllByRecursion (λ b. b ≢ at) text → AllByRecursion (λ b. b ≢ at) other → (text ≡ other) × (tail ≡ more)
+one_cut at text tail other more e bare also =
+    let same = same_cut (λ b. b ≢ at) text at tail other at more e bare (λ d. d refl) also (λ d. d refl) in
+    (same.0, same.2)
 
-pub same_ended : (texts others : List (List ℕ)) → ended texts ≡ ended others
+same_ended : (texts others : List (List ℕ)) → ended texts ≡ ended others
     → AllByRecursion (AllByRecursion (λ b. b ≢ 10)) texts → AllByRecursion (AllByRecursion (λ b. b ≢ 10)) others
     → texts ≡ others
 same_ended [] [] e bare also = refl
 same_ended [] (other ∷ others) e bare also = absurd (not_nil other 10 (ended others) e)
 same_ended (text ∷ texts) [] e bare also = absurd (not_nil text 10 (ended texts) (sym e))
 same_ended (text ∷ texts) (other ∷ others) e bare also =
-    let same =
-    same_cut (λ b. b ≢ 10) text 10 (ended texts) other 10 (ended others) e bare.0 feed_fails also.0 feed_fails in
-    cc (same.0, same_ended texts others same.2 bare.1 also.1)
+    let same = one_cut 10 text (ended texts) other (ended others) e bare.0 also.0 in
+    cc (same.0, same_ended texts others same.1 bare.1 also.1)
 
 -- the bytes are lines in one way only
 pub same_lines : {bytes : List ℕ} {texts others : List (List ℕ)} → AreLines bytes texts → AreLines bytes others
@@ -68,27 +70,20 @@ pub split_at : {X : Type 0} (xs : List X) (i : ℕ) (x d : X) → i < length xs 
     → xs ≡ take i xs ++ x ∷ drop (i + 1) xs
 split_at xs i x d less is = rw (← is, ← drop_more xs i d less) (sym (take-append-drop i xs))
 
--- the first of some lines, and those after it
-abbrev pub NextLine : List ℕ → List ℕ → List (List ℕ) → Type 0
-NextLine text tail texts = (later : List (List ℕ)) × (texts ≡ text ∷ later) × AreLines tail later
-
 -- where lines have a first line feed, the first line comes before it
 pub next_line : {bytes text tail : List ℕ} {texts : List (List ℕ)} → AreLines bytes texts → bytes ≡ text ++ 10 ∷ tail
-    → AllByRecursion (λ b. b ≢ 10) text
-    → NextLine text tail texts
+    → AllByRecursion (λ b. b ≢ 10) text → (later : List (List ℕ)) × (texts ≡ text ∷ later) × AreLines tail later
 next_line {text = text} {tail = tail} {texts = []} are e bare = absurd (not_nil text 10 tail (sym are.whole ∙ e))
 next_line {text = text} {tail = tail} {texts = first ∷ later} are e bare =
-    let same =
-    same_cut (λ b. b ≢ 10) first 10 (ended later) text 10 tail (sym are.whole ∙ e) are.bare.0 feed_fails bare
-    feed_fails in
-    (later, ap (λ (t : List ℕ). t ∷ later) same.0, record { whole = sym same.2; bare = are.bare.1 })
+    let same = one_cut 10 first (ended later) text tail (sym are.whole ∙ e) are.bare.0 bare in
+    (later, ap (λ (t : List ℕ). t ∷ later) same.0, record { whole = sym same.1; bare = are.bare.1 })
 
 -- bytes without a line feed are no lines
 pub no_line : {bytes : List ℕ} {texts : List (List ℕ)} → AreLines bytes texts → AllByRecursion (λ b. b ≢ 10) bytes
     → texts ≡ []
 no_line {texts = []} are bare = refl
 no_line {bytes} {texts = first ∷ later} are bare =
-    absurd (no_cut (λ b. b ≢ 10) bytes first 10 (ended later) are.whole bare feed_fails)
+    absurd (no_cut (λ b. b ≢ 10) bytes first 10 (ended later) are.whole bare (λ d. d refl))
 
 pub ended_append : (texts others : List (List ℕ)) → ended (texts ++ others) ≡ ended texts ++ ended others
 ended_append [] others = refl

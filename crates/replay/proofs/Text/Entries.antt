@@ -1,5 +1,5 @@
 -- Lines of entries that have been read, and those that are left.
-use Rattle.std.proofs.Common.{◌≡◌, ◌≢◌, ℕ, ◌+◌, ◌<◌, List, [], ◌∷◌, ◌++◌, ◌∙◌, length, sym, ap, arith}
+use Rattle.std.proofs.Common.{◌≡◌, ◌≢◌, ℕ, ◌+◌, ◌<◌, List, [], ◌∷◌, ◌++◌, ◌∙◌, length, refl, sym, ap}
 use Rattle.std.proofs.lemmas.List.{append_assoc, append-nil}
 use Rattle.std.proofs.lemmas.Slice.Zip.{AllZip-long}
 use Rattle.std.specs.List.{AllByRecursion, AllZip}
@@ -7,24 +7,14 @@ use Rattle.indexmap.proofs.SetLemmas.{AllZip-push}
 use Rattle.replay.specs.declared.file.fault.CheckFault.TheVariants.{Form}
 use Rattle.replay.specs.declared.file.line.BookLine.{BookLine}
 use Rattle.replay.specs.Text.Files.{AreLines, IsEntryLine, IsEntryText, IsEntriesFault}
-use Rattle.replay.proofs.Text.Cuts.{same_cut, no_cut, next_line, no_line}
-use Rattle.replay.proofs.Text.OneReading.{digits_bare, space_fails, entries_formed}
+use Rattle.replay.proofs.Text.Cuts.{no_cut, next_line, no_line}
+use Rattle.replay.proofs.Text.OneReading.{entries_formed}
 
 -- a text without a space is no entry's line
 pub no_pieces : (text : List ℕ) → AllByRecursion (λ b. b ≢ 32) text → ¬ IsEntryText text
 no_pieces text none (line, is) =
-    no_cut (λ b. b ≢ 32) text is.parent 32 ((48 + line.thread) ∷ 32 ∷ is.order) is.whole none space_fails
-
--- what comes before the first space of an entry's line is the parent's number, and what follows are the thread and the
--- order
-pub entry_pieces : {text parent rest : List ℕ} {line : BookLine} → text ≡ parent ++ 32 ∷ rest
-    → AllByRecursion (λ b. b ≢ 32) parent → (is : IsEntryLine text line)
-    → (is.parent ≡ parent) × (rest ≡ (48 + line.thread) ∷ 32 ∷ is.order)
-entry_pieces {text} {parent} {rest} {line} e none is =
-    let same =
-    same_cut (λ b. b ≢ 32) is.parent 32 ((48 + line.thread) ∷ 32 ∷ is.order) parent 32 rest (sym is.whole ∙ e)
-    (digits_bare 32 (omega arith) is.parent is.is_number.digits.1) space_fails none space_fails in
-    (same.0, sym same.2)
+    no_cut (λ b. b ≢ 32) text is.parent 32 ((48 + line.thread) ∷ 32 ∷ is.order) is.whole none
+    (λ d. d refl)
 
 -- the bytes are lines: first those of these entries, and then the rest
 pub record HasReadLines (bytes : List ℕ) (lines : List BookLine) (rest : List ℕ) : Type 0 where
@@ -34,11 +24,6 @@ pub record HasReadLines (bytes : List ℕ) (lines : List BookLine) (rest : List 
   pub left : AreLines rest ahead
   pub each : AllZip IsEntryLine done lines
   pub bounded : length (done ++ ahead) < 2000000
-
-pub lines_none : {bytes : List ℕ} {texts : List (List ℕ)} → AreLines bytes texts → length texts < 2000000
-    → HasReadLines bytes [] bytes
-lines_none {texts = texts} are bounded =
-    record { done = []; ahead = texts; whole = are; left = are; each = tt; bounded = bounded }
 
 pub lines_push : {bytes rest text tail : List ℕ} {lines : List BookLine} {line : BookLine}
     → HasReadLines bytes lines rest → rest ≡ text ++ 10 ∷ tail

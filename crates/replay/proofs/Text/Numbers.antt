@@ -14,9 +14,6 @@ pub record HasRead (text : List ℕ) (i value most : ℕ) : Type 0 where
   pub digits : AllDigits 10 (take i text)
   pub is : value ≡ min (digits_value 10 (take i text)) most
 
-pub read_none : (text : List ℕ) (most : ℕ) → HasRead text 0 0 most
-read_none text most = record { digits = tt; is = omega arith }
-
 pub read_digit : {text : List ℕ} {i value most next : ℕ} → HasRead text i value most → i < length text
     → 48 ≤ get_or text i 0 → get_or text i 0 ≤ 57 → next ≡ min (value * 10 + (get_or text i 0 - 48)) most
     → HasRead text (i + 1) next most

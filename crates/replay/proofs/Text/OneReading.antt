@@ -1,16 +1,15 @@
 -- Bytes are the text of the lines of one book at most, and one line at most is the first that is not in the form.
-use Rattle.std.proofs.Common.{◌≡◌, ◌≢◌, ◌∙◌, ℕ, ◌+◌, ◌<◌, List, [], ◌∷◌, ◌++◌, length, get_or, refl, sym}
-use Rattle.std.proofs.Common.{ap, arith, inl, inr}
+use Rattle.std.proofs.Common.{◌≡◌, ◌≢◌, ◌∙◌, ℕ, ◌+◌, ◌<◌, List, [], ◌∷◌, ◌++◌, length, refl, sym, arith, inl, inr}
 use Rattle.std.proofs.lemmas.Slice.Zip.{AllZip-long}
 use Rattle.std.proofs.lemmas.Str.Parse.{digit_from_value}
 use Rattle.std.specs.List.{AllByRecursion, AllZip}
 use Rattle.std.specs.Str.Parse.{AllDigits}
-use Rattle.sched_program.specs.declared.operation.OpId.{OpId}
 use Rattle.replay.specs.declared.file.line.BookLine.{BookLine}
-use Rattle.replay.specs.Text.Files.{commaed, order_text, IsEntryLine, start_text, IsBookText, HasHead}
+use Rattle.replay.specs.Text.Files.{IsEntryLine, start_text, IsBookText, HasHead}
 use Rattle.replay.specs.Text.Files.{IsEntryText, IsEntryMisformed, IsFirstMisformed}
 use Rattle.replay.proofs.Either.{AtMostOne, one_of_either}
-use Rattle.replay.proofs.Text.Cuts.{no_cut, same_cut, same_lines}
+use Rattle.replay.proofs.Text.Cuts.{no_cut, one_cut, same_cut, same_lines}
+use Rattle.replay.proofs.Text.Orders.{same_order}
 
 -- no digit is a byte below 48, as a space or a line feed
 pub digits_bare : (at : ℕ) → at < 48 → (text : List ℕ) → AllDigits 10 text → AllByRecursion (λ b. b ≢ at) text
@@ -18,50 +17,29 @@ digits_bare at below [] digits = tt
 digits_bare at below (c ∷ text) digits = let range = digit_from_value c digits.0 in
     (omega arith, digits_bare at below text digits.1)
 
-pub space_fails : ¬ (let n : ℕ = 32 in n ≢ 32)
-space_fails differs = differs refl
-
-pub same_id : (a b : OpId) → 48 + a.thread ≡ 48 + b.thread → 48 + a.index ≡ 48 + b.index → a ≡ b
-same_id a b e f =
-    let threads : a.thread ≡ b.thread = omega arith in
-    let indices : a.index ≡ b.index = omega arith in
-    λ j. record { thread = threads j; index = indices j }
-
-same_commaed : (ids others : List OpId) → commaed ids ≡ commaed others → ids ≡ others
-same_commaed [] [] e = refl
-same_commaed (id ∷ ids) (other ∷ others) e =
-    let first = same_id id other (cc) (cc) in
-    let rest = same_commaed ids others (cc) in
-    cc
-same_commaed _ _ e = cc
-
--- a text is that of one order
-pub same_order : (ids others : List OpId) → order_text ids ≡ order_text others → ids ≡ others
-same_order [] [] e = refl
-same_order [] (other ∷ others) e = absurd (omega (arith, ap (λ text. get_or text 0 0) e))
-same_order (id ∷ ids) [] e = absurd (omega (arith, ap (λ text. get_or text 0 0) e))
-same_order (id ∷ ids) (other ∷ others) e =
-    let first = same_id id other (cc) (cc) in
-    let rest = same_commaed ids others (cc) in
-    cc
+-- what comes before the first space of an entry's line is the parent's number, and what follows are the thread and the
+-- order
+pub entry_pieces : {text parent rest : List ℕ} {line : BookLine} → text ≡ parent ++ 32 ∷ rest
+    → AllByRecursion (λ b. b ≢ 32) parent → (is : IsEntryLine text line)
+    → (is.parent ≡ parent) × (rest ≡ (48 + line.thread) ∷ 32 ∷ is.order)
+entry_pieces {text} {parent} {rest} {line} e none is =
+    let same = one_cut 32 is.parent ((48 + line.thread) ∷ 32 ∷ is.order) parent rest (sym is.whole ∙ e)
+    (digits_bare 32 (omega arith) is.parent is.is_number.digits.1) none in
+    (same.0, sym same.1)
 
 -- a text is that of one entry's line
-pub same_entry_line : (text : List ℕ) (line other : BookLine) → IsEntryLine text line → IsEntryLine text other
+same_entry_line : (text : List ℕ) (line other : BookLine) → IsEntryLine text line → IsEntryLine text other
     → line ≡ other
 same_entry_line text line other is also =
-    let cut =
-    same_cut (λ b. b ≢ 32) is.parent 32 ((48 + line.thread) ∷ 32 ∷ is.order) also.parent 32
-    ((48 + other.thread) ∷ 32 ∷ also.order)
-    (sym is.whole ∙ also.whole) (digits_bare 32 (omega arith) is.parent is.is_number.digits.1) space_fails
-    (digits_bare 32 (omega arith) also.parent also.is_number.digits.1) space_fails in
-    let number : is.number ≡ also.number = cc (cut.0, is.is_number.value, also.is_number.value) in
+    let same = entry_pieces also.whole (digits_bare 32 (omega arith) also.parent also.is_number.digits.1) is in
+    let number : is.number ≡ also.number = cc (same.0, is.is_number.value, also.is_number.value) in
     let parents : line.parent ≡ other.parent = cc (number, is.counted, also.counted) in
-    let digits : 48 + line.thread ≡ 48 + other.thread = cc (cut.2) in
+    let digits : 48 + line.thread ≡ 48 + other.thread = cc (same.1) in
     let threads : line.thread ≡ other.thread = omega arith in
-    let orders = same_order line.order other.order (cc (cut.2, is.is_order.whole, also.is_order.whole)) in
+    let orders = same_order other.order line.order (cc (same.1, is.is_order.whole, also.is_order.whole)) in
     λ j. record { parent = parents j; thread = threads j; order = orders j }
 
-pub same_entries : (texts : List (List ℕ)) (lines others : List BookLine) → AllZip IsEntryLine texts lines
+same_entries : (texts : List (List ℕ)) (lines others : List BookLine) → AllZip IsEntryLine texts lines
     → AllZip IsEntryLine texts others → lines ≡ others
 same_entries [] [] [] are also = refl
 same_entries (text ∷ texts) (line ∷ lines) (other ∷ others) are also =

@@ -1,12 +1,10 @@
 -- What has been read of an order's text, and what is left of it.
-use Rattle.std.proofs.Common.{◌≡◌, ◌≢◌, ℕ, ◌≤◌, List, [], ◌∷◌, ◌++◌, ◌∙◌, length, get_or, refl, sym, ap}
-use Rattle.std.proofs.Common.{arith}
-use Rattle.std.proofs.lemmas.List.{append_assoc, length-append}
+use Rattle.std.proofs.Common.{◌≡◌, ◌≢◌, ℕ, ◌+◌, ◌≤◌, List, [], ◌∷◌, ◌++◌, ◌∙◌, length, get_or, refl, sym, ap, arith}
+use Rattle.std.proofs.lemmas.List.{append_assoc, append-nil, length-append}
 use Rattle.std.specs.List.{AllByRecursion}
 use Rattle.sched_program.specs.declared.operation.OpId.{OpId}
 use Rattle.replay.specs.Text.Files.{IsName, name_text, commaed, order_text, IsOrder}
 use Rattle.replay.proofs.Text.Cuts.{all_append}
-use Rattle.replay.proofs.Text.OneReading.{same_id}
 
 -- the text is these names, at least one, and the rest
 pub record HasOrder (text : List ℕ) (order : List OpId) (rest : List ℕ) : Type 0 where
@@ -41,6 +39,12 @@ order_push {later = later} {order = order} {id = id} has comma e is = record {
 abbrev pub GoesOn : List OpId → List OpId → List ℕ → Type 0
 GoesOn order other rest = (more : List OpId) × (other ≡ order ++ more) × (rest ≡ commaed more)
 
+pub same_id : (a b : OpId) → 48 + a.thread ≡ 48 + b.thread → 48 + a.index ≡ 48 + b.index → a ≡ b
+same_id a b e f =
+    let threads : a.thread ≡ b.thread = omega arith in
+    let indices : a.index ≡ b.index = omega arith in
+    λ j. record { thread = threads j; index = indices j }
+
 commaed_left : (order other : List OpId) (rest : List ℕ) → commaed other ≡ commaed order ++ rest
     → GoesOn order other rest
 commaed_left [] other rest e = (other, refl, sym e)
@@ -50,16 +54,23 @@ commaed_left (id ∷ order) (first ∷ other) rest e =
     let (more, split, left) = commaed_left order other rest (cc) in
     (more, cc, left)
 
-order_left : {text rest : List ℕ} (order other : List OpId) → HasOrder text order rest → IsOrder text other
+order_left : (order other : List OpId) (rest : List ℕ) → order_text other ≡ order_text order ++ rest
     → GoesOn order other rest
-order_left [] other has is = absurd (omega (arith, has.some))
-order_left (id ∷ order) [] has is =
-    absurd (omega (arith, ap (λ (l : List ℕ). get_or l 0 0) (sym is.whole ∙ has.whole)))
-order_left {rest = rest} (id ∷ order) (first ∷ other) has is =
-    let whole : name_text first ++ commaed other ≡ name_text id ++ (commaed order ++ rest) = sym is.whole ∙ has.whole in
-    let same = same_id id first (cc) (cc) in
-    let (more, split, left) = commaed_left order other rest (cc) in
-    (more, cc, left)
+order_left [] [] rest e = ([], refl, cc)
+order_left [] (first ∷ other) rest e = absurd (omega (arith, ap (λ (l : List ℕ). get_or l 0 0) e))
+order_left (id ∷ order) [] rest e = absurd (omega (arith, ap (λ (l : List ℕ). get_or l 0 0) e))
+order_left (id ∷ order) (first ∷ other) rest e =
+    commaed_left (id ∷ order) (first ∷ other) rest (ap (λ (l : List ℕ). 44 ∷ l) e)
+
+-- a text is that of one order
+pub same_order : (order other : List OpId) → order_text order ≡ order_text other → other ≡ order
+same_order order other e =
+    let (more, split, left) = order_left order other [] (sym (append-nil (order_text order) ∙ e)) in
+    go more split left
+  where
+    go : (more : List OpId) → other ≡ order ++ more → [] ≡ commaed more → other ≡ order
+    go [] split left = split ∙ append-nil order
+    go (id ∷ more) split left = cc
 
 among : (order : List OpId) (id : OpId) (more : List OpId) → AllByRecursion IsName (order ++ id ∷ more) → IsName id
 among [] id more all = all.0
@@ -69,8 +80,8 @@ among (first ∷ order) id more all = among order id more all.1
 pub no_name : {text rest tail : List ℕ} {order : List OpId} → HasOrder text order rest → rest ≡ 44 ∷ tail
     → ((id : OpId) (later : List ℕ) → IsName id → tail ≢ name_text id ++ later) → (other : List OpId)
     → ¬ IsOrder text other
-no_name {tail = tail} {order = order} has comma none other is =
-    let (more, split, left) = order_left order other has is in
+no_name {rest = rest} {tail = tail} {order = order} has comma none other is =
+    let (more, split, left) = order_left order other rest (sym is.whole ∙ has.whole) in
     go more split (sym comma ∙ left)
   where
     go : (more : List OpId) → other ≡ order ++ more → 44 ∷ tail ≡ commaed more → ⊥
@@ -81,7 +92,7 @@ no_name {tail = tail} {order = order} has comma none other is =
 pub no_comma : {text rest : List ℕ} {order : List OpId} → HasOrder text order rest → length rest ≢ 0
     → ((tail : List ℕ) → rest ≢ 44 ∷ tail) → (other : List OpId) → ¬ IsOrder text other
 no_comma {rest = rest} {order = order} has some none other is =
-    let (more, split, left) = order_left order other has is in
+    let (more, split, left) = order_left order other rest (sym is.whole ∙ has.whole) in
     go more left
   where
     go : (more : List OpId) → rest ≡ commaed more → ⊥

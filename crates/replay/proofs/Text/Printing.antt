@@ -2,13 +2,13 @@
 use Rattle.std.proofs.Common.{◌≡◌, ◌≢◌, ℕ, zero, suc, ◌+◌, ◌<◌, ◌≤◌, ◌^◌, List, [], ◌∷◌, ◌++◌, ◌∙◌, length, map, get_or}
 use Rattle.std.proofs.Common.{codes, refl, ap, arith}
 use Rattle.std.proofs.lemmas.Fmt.{decimal_is_IsNumeral, first_decimal, decimal_digit}
-use Rattle.std.proofs.lemmas.List.{append_assoc, map_push, length-map}
+use Rattle.std.proofs.lemmas.List.{map_push, length-map}
 use Rattle.std.proofs.lemmas.List.Elements.{recursion_from_All}
 use Rattle.std.specs.Fmt.{decimal}
 use Rattle.std.specs.List.{All, AllByRecursion, AllZip}
 use Rattle.sched_program.specs.declared.operation.OpId.{OpId}
 use Rattle.replay.specs.declared.file.line.BookLine.{BookLine}
-use Rattle.replay.specs.Text.Files.{ended, IsNumber, IsName, name_text, commaed, order_text, IsEntryLine, IsHead}
+use Rattle.replay.specs.Text.Files.{ended, IsNumber, IsName, commaed, order_text, IsEntryLine, IsHead}
 use Rattle.replay.specs.Text.Files.{start_text, IsBookText}
 use Rattle.replay.specs.Text.Written.{head_text, line_text, IsProper}
 use Rattle.replay.proofs.Text.Cuts.{all_append, ended_append}
@@ -21,22 +21,6 @@ text_of line = line_text line.parent line.thread line.order
 -- the head of a file with this number of entries, the line of the first, and these lines of entries after it
 unfoldable pub book_text : ℕ → List BookLine → List ℕ
 book_text entries lines = ended (head_text entries ∷ start_text ∷ map text_of lines)
-
--- four pieces, written one by one
-pub pieces : (old words number feed : List ℕ) → ((old ++ words) ++ number) ++ feed ≡ old ++ ((words ++ number) ++ feed)
-pieces old words number feed = simp append_assoc
-
--- what is written of a head
-pub head_written : (old : List ℕ) (entries : ℕ) → ((old ++ codes "treesched book 1 entries ") ++ decimal entries)
-    ++ 10 ∷ [] ≡ old ++ ended (head_text entries ∷ [])
-unfolding head_text
-head_written old entries = pieces old (codes "treesched book 1 entries ") (decimal entries) (10 ∷ [])
-
--- what is written of an order
-pub order_written : (old : List ℕ) (order : List OpId) (first : OpId) (rest : List OpId) → order ≡ first ∷ rest
-    → (old ++ name_text first) ++ commaed rest ≡ old ++ order_text order
-order_written old order first rest is =
-    rw (is, append_assoc)
 
 -- what decimal writes is the number
 is_number : (n : ℕ) → n < 2 ^ 64 → IsNumber (decimal n) n
@@ -87,13 +71,10 @@ entry_bare text line is =
     rw is.whole (all_append (λ b. b ≢ 10) is.parent (32 ∷ (48 + line.thread) ∷ 32 ∷ is.order)
     (digits_bare 10 (omega arith) is.parent is.is_number.digits.1) (omega arith, (omega arith, (omega arith, order))))
 
-words_bare : AllByRecursion (λ b. b ≢ 10) (codes "treesched book 1 entries ")
-words_bare = search arith
-
 head_bare : (entries : ℕ) → entries < 2 ^ 64 → AllByRecursion (λ b. b ≢ 10) (head_text entries)
 unfolding head_text
 head_bare entries small =
-    all_append (λ b. b ≢ 10) (codes "treesched book 1 entries ") (decimal entries) words_bare
+    all_append (λ b. b ≢ 10) (codes "treesched book 1 entries ") (decimal entries) (search arith)
     (digits_bare 10 (omega arith) (decimal entries) (is_number entries small).digits.1)
 
 entries_each : (lines : List BookLine) → AllByRecursion IsProper lines → AllZip IsEntryLine (map text_of lines) lines

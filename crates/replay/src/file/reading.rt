@@ -156,17 +156,11 @@ fn line_count(bytes: &[u8]) -> Option<usize>
         × (length texts ≡ count)) }
     ensures none { IfNone result ((texts : List (List ℕ)) → ¬ AreLines bytes.now texts) }
 {
-    let mut count = 0;
-    let mut is_ended = true;
-    for byte in bytes {
-        if *byte == b'\n' {
-            count += 1;
-            is_ended = true;
-        } else {
-            is_ended = false;
-        }
+    if bytes.is_empty() {
+        return Some(0);
     }
-    if is_ended { Some(count) } else { None }
+    bytes.strip_suffix(b"\n")?;
+    Some(bytes.iter().filter(|byte| **byte == b'\n').count())
 }
 
 /// What follows the first line, if that is in the form.

@@ -19,11 +19,11 @@ returns c =
     (first_word last.0.words _ c.word-word.result last.2 c.word-word.ensures) in
     let once : IsPermutation (below c.min-drawn.result) (places_drawn c.args.seats.items) =
     rw c.min-drawn.ensures
-    (IsPermutation-trans _ _ _ end.drawn (IsPermutation-sym _ _ c.gather-whole.ensures.places)) in
+    (IsPermutation-trans _ _ _ end.0 (IsPermutation-sym _ _ c.gather-whole.ensures.places)) in
     record {
       once = once;
       drawn = sym (length_permutation _ _ once ∙ length-range_with_len 0 c.min-drawn.result);
-      spent = omega (arith, end.stated, c.gather-whole.ensures.spent, c.min-drawn.ensures);
+      spent = omega (arith, end.1, c.gather-whole.ensures.spent, c.min-drawn.ensures);
       within = search rules;
       whole = search rules;
     }

@@ -38,6 +38,3 @@ returns-clause-fresh c =
     all_new (record { counter = c.in_ok-table.table.shared.table_id; size = size }) _ _ _
     c.push_reserved-2.ensures.items c.loop.invariant.made (search rules)
     (rw (c.seated-2.ensures.1, c.loop.invariant.rest, single) refl)
-
-pub returns-clause-size : goal.returns-clause-size
-returns-clause-size c = refl

@@ -1,11 +1,9 @@
-use Rattle.std.proofs.Common.{ℕ, List, ◌∷◌, [], ◌++◌, ◌∙◌, ap}
-use Rattle.std.specs.Fmt.{decimal}
-use Rattle.replay.proofs.Text.Printing.{head_written}
+use Rattle.std.proofs.lemmas.List.{append_assoc}
+use Rattle.replay.specs.Text.Written.{head_text}
 use Rattle.replay.proofs.file.printing.push_head.Goals as goal
 
 pub returns : goal.returns
+unfolding head_text
 returns c =
-    c.in_ok-extend_from_slice-2.ensures.items
-    ∙ ap (λ (l : List ℕ). l ++ 10 ∷ []) (c.in_ok-push_number.ensures
-    ∙ ap (λ (l : List ℕ). l ++ decimal c.args.entries) c.in_ok-extend_from_slice.ensures.items)
-    ∙ head_written c.args.text.now.items c.args.entries
+    let last = c.in_ok-extend_from_slice-2.ensures.items in
+    rw (last, c.in_ok-push_number.ensures, c.in_ok-extend_from_slice.ensures.items) (simp append_assoc)

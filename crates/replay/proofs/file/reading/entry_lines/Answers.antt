@@ -1,9 +1,12 @@
-use Rattle.std.proofs.Common.{inr}
-use Rattle.replay.proofs.Text.Entries.{lines_none, lines_push, lines_all, lines_fault}
+use Rattle.std.proofs.Common.{inr, []}
+use Rattle.replay.proofs.Text.Entries.{lines_push, lines_all, lines_fault}
 use Rattle.replay.proofs.file.reading.entry_lines.Goals as goal
 
 pub loop-text-init : goal.loop-text-init
-loop-text-init c = rw c.new-lines.ensures (lines_none c.requires.1 c.requires.2)
+loop-text-init c =
+    let (texts, are, bounded) = c.requires in
+    rw c.new-lines.ensures
+    (record { done = []; ahead = texts; whole = are; left = are; each = tt; bounded = bounded })
 
 pub returns-in-None-clause-err : goal.returns-in-None-clause-err
 returns-in-None-clause-err c =

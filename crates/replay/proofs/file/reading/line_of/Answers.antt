@@ -1,5 +1,6 @@
 use Rattle.std.proofs.Common.{◌≡◌}
-use Rattle.replay.proofs.Text.Entries.{entry_pieces, no_pieces}
+use Rattle.replay.proofs.Text.Entries.{no_pieces}
+use Rattle.replay.proofs.Text.OneReading.{entry_pieces}
 use Rattle.replay.proofs.file.reading.line_of.Goals as goal
 
 pub returns-in_default-clause-none : goal.returns-in_default-clause-none

@@ -1,9 +1,9 @@
-use Rattle.std.proofs.Common.{◌≡◌, ◌≢◌, ◌⊎◌, List, ◌∷◌, ◌++◌, codes, refl, inl, inr}
+use Rattle.std.proofs.Common.{◌≡◌, ◌⊎◌, codes, refl, inl, inr}
 use Rattle.std.proofs.lemmas.Bool.Decides.{Decides-eqb}
 use Rattle.std.proofs.lemmas.Result.{IfOk-weaker, IfErr-weaker}
 use Rattle.std.proofs.lemmas.Slice.Eq.{strip_prefix_is}
 use Rattle.replay.specs.declared.file.fault.CheckFault.TheVariants.{OutOfMemory}
-use Rattle.replay.specs.Text.Files.{start_text, IsBookText, IsFormFault}
+use Rattle.replay.specs.Text.Files.{IsBookText, IsFormFault}
 use Rattle.replay.proofs.Text.Heads.{after_start, is_book, entries_fault, start_fault}
 use Rattle.replay.proofs.Text.OneReading.{lines_bounded}
 use Rattle.replay.proofs.file.reading.read_lines.Goals as goal
@@ -15,10 +15,8 @@ returns-in_default-clause-refused c =
 pub entry_lines-requires : goal.entry_lines-requires
 entry_lines-requires c =
     let has = c.in-Some.ensures.found in
-    let e : c.in-Some.rest.now ≡ start_text ++ 10 ∷ c.in-Some-strip_prefix.rest.now =
-    rw c.in-Some-strip_prefix.is at
-    (strip_prefix_is Decides-eqb c.in-Some.rest.now (codes "- - -\n") c.strip_prefix.result
-    c.strip_prefix.ensures.cases) in
+    let e = rw c.in-Some-strip_prefix.is at
+    (strip_prefix_is Decides-eqb c.in-Some.rest.now (codes "- - -\n") _ c.strip_prefix.ensures.cases) in
     let after = after_start has.1 has.2 e in
     (after.0, after.2, after.3)
 
@@ -26,10 +24,8 @@ pub returns-in-Some-strip_prefix : goal.returns-in-Some-strip_prefix
 returns-in-Some-strip_prefix c =
     let bytes = c.args.bytes.now in
     let has = c.in-Some.ensures.found in
-    let e : c.in-Some.rest.now ≡ start_text ++ 10 ∷ c.in-Some-strip_prefix.rest.now =
-    rw c.in-Some-strip_prefix.is at
-    (strip_prefix_is Decides-eqb c.in-Some.rest.now (codes "- - -\n") c.strip_prefix.result
-    c.strip_prefix.ensures.cases) in
+    let e = rw c.in-Some-strip_prefix.is at
+    (strip_prefix_is Decides-eqb c.in-Some.rest.now (codes "- - -\n") _ c.strip_prefix.ensures.cases) in
     let r = c.entry_lines.result in
     let book = IfOk-weaker r _ (λ v. IsBookText bytes v.items)
     (λ v are. is_book has.1 has.2 e are) c.entry_lines.ensures.ok in
@@ -43,8 +39,6 @@ returns-in-Some-strip_prefix c =
 pub returns-in-None-clause-refused : goal.returns-in-None-clause-refused
 returns-in-None-clause-refused c =
     let has = c.in-Some.ensures.found in
-    let none : (tail : List _) → c.in-Some.rest.now ≢ start_text ++ 10 ∷ tail =
-    rw c.in-None.is at
-    (strip_prefix_is Decides-eqb c.in-Some.rest.now (codes "- - -\n") c.strip_prefix.result
-    c.strip_prefix.ensures.cases) in
+    let none = rw c.in-None.is at
+    (strip_prefix_is Decides-eqb c.in-Some.rest.now (codes "- - -\n") _ c.strip_prefix.ensures.cases) in
     inr (2, refl, start_fault has.0 has.1 has.2 none)
