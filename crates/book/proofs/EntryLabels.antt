@@ -11,7 +11,7 @@ use Rattle.options.specs.declared.options.Merge.TheVariants.{Exact}
 use Rattle.replay.specs.declared.finding.Finding.{Finding}
 use Rattle.book.specs.Books.{IsBook}
 use Rattle.book.specs.ByLabel.{IsTakenOf}
-use Rattle.book.specs.Entries.{Contents, Entry, At}
+use Rattle.book.specs.Entries.{Contents, Entry, IsOwn, At}
 use Rattle.book.specs.Labels.{AreKnownBy, Kept, label_by}
 use Rattle.book.proofs.InBook.{state_bounded}
 
@@ -58,3 +58,12 @@ taken_of rules own_code form_code form_of book i e at program own label is findi
       label = sym is;
       finding = rw (own, found) (book.law.law.findings i e at);
     }
+
+-- an entry's machine and state are its own
+pub own_from : {X S : Type 0} (book : Contents X S) (i : ℕ) (e : Entry S) (x : X) (p : Program) (s r : S)
+    → At book.entries i e → r ≡ e.state → x ≡ book.machine → p ≡ book.program → s ≡ r → IsOwn book i x p s
+own_from book i e x p s r at state same_machine same_program same_state = record {
+  machine = same_machine;
+  program = same_program;
+  source = λ d there. rw (← same_Some e d (sym at ∙ there)) (same_state ∙ state);
+}

@@ -2,8 +2,7 @@ use Rattle.std.proofs.Common.{◌≡◌, ap, refl, sym, ◌∙◌}
 use Rattle.std.proofs.lemmas.Option.{slice_get_within}
 use Rattle.tree_machine.specs.FormCode.{state_code}
 use Rattle.tree_machine.specs.Laws.Codes.{state_code_tells, own_tells}
-use Rattle.book.proofs.Entering.{own_from}
-use Rattle.book.proofs.EntryLabels.{exact_label}
+use Rattle.book.proofs.EntryLabels.{exact_label, own_from}
 use Rattle.book.proofs.book.Book.is_expansion_of.Goals as goal
 
 pub label-requires : goal.label-requires

@@ -31,4 +31,4 @@ returns-clause-leads g c =
 
 pub returns-clause-only : goal.returns-clause-only
 returns-clause-only g c =
-    λ d also. no_other_way c.self.invariant.0 _ c.self.view_is _ d c.args.id (returns-clause-way g c) also
+    λ d also. no_other_way c.self.invariant.0 _ c.self.view_is _ d c.args.id c.requires (returns-clause-way g c) also
