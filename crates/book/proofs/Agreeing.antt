@@ -1,9 +1,7 @@
 -- What holds by one relation of states holds by another that agrees with it on the states of the machine.
-use Rattle.std.proofs.Common.{ℕ, List}
-use Rattle.std.specs.Prelude.{◌↔◌}
-use Rattle.replay.specs.declared.finding.Finding.{Finding}
+use Rattle.std.proofs.Common.{ℕ, List, ◌↔◌}
+use Rattle.book.specs.Entries.{Finding, At, Contents, Entry}
 use Rattle.book.specs.Counts.{IsCount}
-use Rattle.book.specs.Entries.{At, Contents, Entry}
 use Rattle.book.specs.Law.{FindsAlike, IsLawfulBook, StandsFor, StandsForReached}
 use Rattle.replay.specs.Schedule.{StepMachine, IsMachine, IsReachableWithin}
 use Rattle.book.proofs.Ways.{along, fits_after}

@@ -1,17 +1,16 @@
 -- How many states the schedules reach.
-use Rattle.std.proofs.Common.{◌≡◌, ℕ, zero, suc, ◌<◌, ◌≤◌, inl, inr, Bool, true, false, Some, List, [], ◌∷◌}
-use Rattle.std.proofs.Common.{◌++◌, length, take, drop, count_by, get_or, refl, sym, ap, ◌∙◌, arith, slice_get, leb}
+use Rattle.std.proofs.Common.{◌≡◌, ℕ, zero, suc, ◌<◌, ◌≤◌, inl, inr, Bool, true, false, Some, List, [], ◌∷◌, ◌++◌}
+use Rattle.std.proofs.Common.{length, take, drop, count_by, get_or, refl, sym, ap, ◌∙◌, arith, slice_get, leb}
+use Rattle.std.proofs.Common.{leb-false, leb-true, length-take-le, take-append-drop}
 use Rattle.std.proofs.Math.ListN.{length-map}
 use Rattle.std.specs.List.{prefix_len}
-use Rattle.std.proofs.lemmas.Bool.{cases_lt, leb-false, leb-true, lt-leb}
+use Rattle.std.proofs.lemmas.Bool.{cases_lt, lt-leb}
 use Rattle.std.proofs.lemmas.Option.{get_or_from_slice_get, slice_get-get_or, slice_get_within}
-use Rattle.std.proofs.lemmas.List.{length_push, length-take-le, take-append-drop}
+use Rattle.std.proofs.lemmas.List.{length_push}
 use Rattle.std.proofs.lemmas.List.Sums.{sum_by-cons, prefix_len-le-length, prefix_len_passes, prefix_len_stops}
 use Rattle.tree_machine.proofs.Lists.{get-append_left}
-use Rattle.replay.specs.declared.finding.Finding.{Finding}
-use Rattle.book.specs.declared.entry.Mark.TheVariants.{Expanded}
+use Rattle.book.specs.Entries.{Finding, Expanded, Entry, At, states}
 use Rattle.replay.specs.Schedule.{StepMachine, AreOneBy, IsMachine, Merges, after}
-use Rattle.book.specs.Entries.{Entry, At, states}
 use Rattle.book.specs.Law.{IsLawful}
 use Rattle.book.specs.Counts.{IsCount}
 use Rattle.replay.specs.Laws.Schedules.{run_push}

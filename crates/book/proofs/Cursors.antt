@@ -1,15 +1,14 @@
 -- The places among the entries that are looked for again and again.
 use Rattle.std.proofs.Common.{◌≡◌, ◌≢◌, ℕ, zero, suc, ◌+◌, ◌<◌, ◌≤◌, inl, inr, Bool, true, false, not, cond, Option}
 use Rattle.std.proofs.Common.{Some, None, List, [], ◌∷◌, ◌++◌, length, map, refl, sym, ap, ◌∙◌, arith, slice_get}
-use Rattle.std.proofs.Common.{IfSome, position, length-append, ltb, get_or}
+use Rattle.std.proofs.Common.{IfSome, position, length-append, ltb, get_or, le-ltb, lt-ltb, ltb-true}
 use Rattle.std.specs.List.{position_or_len}
-use Rattle.std.proofs.lemmas.Bool.{cases_Bool, cases_lt, le-ltb, lt-ltb, ltb-true, not-false}
+use Rattle.std.proofs.lemmas.Bool.{cases_Bool, cases_lt, not-false}
 use Rattle.std.proofs.lemmas.List.Sums.{position_or_len_is}
 use Rattle.std.proofs.lemmas.Option.{cond_some, same_Some, slice_get-get_or, slice_get_within}
 use Rattle.tree_machine.proofs.Lists.{get-append_cases, get-append_left, get-map}
-use Rattle.book.specs.declared.entry.Mark.{Mark}
-use Rattle.book.specs.declared.entry.Mark.TheVariants.{Open, Taken, Expanded}
-use Rattle.book.specs.Entries.{Entry, Successor, At, IsTaken, is_open, is_expanded, opened, with_mark}
+use Rattle.book.specs.Entries.{Mark, Open, Taken, Expanded, Entry, Successor, At, IsTaken, is_open, is_expanded, opened}
+use Rattle.book.specs.Entries.{with_mark}
 use Rattle.replay.specs.Findings.{is_sound}
 use Rattle.book.specs.Slots.{IsFirstLeft, IsOpenFrom, AreCursors}
 use Rattle.book.proofs.EntryLemmas.{each-with_mark, get-front, length-with_mark}

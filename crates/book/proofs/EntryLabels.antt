@@ -8,10 +8,9 @@ use Rattle.tree_machine.specs.FormCode.{state_code}
 use Rattle.tree_machine.specs.declared.state.State.{State}
 use Rattle.options.specs.declared.options.Merge.{Merge}
 use Rattle.options.specs.declared.options.Merge.TheVariants.{Exact}
-use Rattle.replay.specs.declared.finding.Finding.{Finding}
+use Rattle.book.specs.Entries.{Finding, Contents, Entry, IsOwn, At}
 use Rattle.book.specs.Books.{IsBook}
 use Rattle.book.specs.ByLabel.{IsTakenOf}
-use Rattle.book.specs.Entries.{Contents, Entry, IsOwn, At}
 use Rattle.book.specs.Labels.{AreKnownBy, Kept, label_by}
 use Rattle.book.proofs.InBook.{state_bounded}
 

@@ -1,14 +1,12 @@
 -- An entry by its number, in lists of entries that are made of others.
-use Rattle.std.proofs.Common.{rules, ◌≡◌, ◌≢◌, ℕ, zero, suc, ◌+◌, ◌≤◌, ◌⊎◌, inl, inr, List, [], ◌∷◌, ◌++◌, length}
-use Rattle.std.proofs.Common.{refl, sym, ap}
-use Rattle.std.proofs.Common.{◌∙◌, ◌<◌, Some, slice_get, arith, count_by, cond, map, subst, sum_by}
+use Rattle.std.proofs.Common.{rules, ◌≡◌, ◌≢◌, ℕ, zero, suc, ◌+◌, ◌≤◌, ◌⊎◌, inl, inr, List, [], ◌∷◌, ◌++◌, length, refl}
+use Rattle.std.proofs.Common.{sym, ap, ◌∙◌, ◌<◌, Some, slice_get, arith, count_by, cond, map, subst, sum_by}
 use Rattle.std.specs.List.{range_with_len}
 use Rattle.std.proofs.lemmas.List.Sums.{sum_by-cons}
 use Rattle.std.proofs.lemmas.Option.{same_Some, slice_get_within}
 use Rattle.tree_machine.proofs.Lists.{get_at, get-append_cases}
-use Rattle.book.specs.declared.entry.Mark.{Mark}
-use Rattle.book.specs.declared.entry.Mark.TheVariants.{Open, Taken, Expanded}
-use Rattle.book.specs.Entries.{Entry, Successor, At, is_open, is_taken, is_expanded, opened, with_mark, with_marks}
+use Rattle.book.specs.Entries.{Mark, Open, Taken, Expanded, Entry, Successor, At, is_open, is_taken, is_expanded}
+use Rattle.book.specs.Entries.{opened, with_mark, with_marks}
 
 -- what stands in two lists in a row at a number of the first stands in the first
 pub get-front : {X : Type 0} (xs ys : List X) (i : ℕ) (x : X) → slice_get (xs ++ ys) i ≡ Some x → i < length xs
@@ -64,7 +62,8 @@ module _ {S : Type 0} where
       (each-with_mark (λ j f. a + 1 ≤ j → j < z → P j (record f { mark = k })) es a k (λ e at p q. absurd (omega arith))
       (λ j e at apart p q. marked j e at (omega arith) q))
       (each-with_mark (λ j f. (a + 1 ≤ j → j < z → ⊥) → P j f) es a k
-      (λ e at out. marked a e at (omega arith) (omega arith)) (λ j e at apart out. other j e at (λ p q. out (omega arith) q)))
+      (λ e at out. marked a e at (omega arith) (omega arith))
+      (λ j e at apart out. other j e at (λ p q. out (omega arith) q)))
 
   -- so an entry afterwards is an entry from before, but for the mark if it is i
   pub at-with_mark : (es : List (Entry S)) (i : ℕ) (k : Mark) (j : ℕ) (f : Entry S) → At (with_mark es i k) j f

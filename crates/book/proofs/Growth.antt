@@ -1,16 +1,12 @@
 -- How a book grows by one expansion.
-use Rattle.std.proofs.Common.{◌≡◌, ℕ, ◌+◌, ◌<◌, ◌≤◌, inl, inr, Bool, false, not, cond, Option, Some}
-use Rattle.std.proofs.Common.{None, List, length, refl, ap, ◌∙◌, arith, slice_get, position}
-use Rattle.std.proofs.Common.{count_by}
+use Rattle.std.proofs.Common.{◌≡◌, ℕ, ◌+◌, ◌<◌, ◌≤◌, inl, inr, Bool, false, not, cond, Option, Some, None, List, length}
+use Rattle.std.proofs.Common.{refl, ap, ◌∙◌, arith, slice_get, position, count_by}
 use Rattle.std.proofs.lemmas.List.Sums.{sum_by-append}
 use Rattle.std.proofs.lemmas.Option.{slice_get_within}
-use Rattle.replay.specs.declared.finding.Finding.{Finding}
-use Rattle.book.specs.declared.entry.Mark.{Mark}
-use Rattle.book.specs.declared.entry.Mark.TheVariants.{Taken, Expanded}
-use Rattle.replay.specs.Schedule.{AreOneBy, StepMachine, IsMachine, Merges}
-use Rattle.book.specs.Entries.{Entry, Successor, Takes, At, IsNext, with_mark, states}
-use Rattle.book.specs.Unknown.{with_successors, unknown}
+use Rattle.book.specs.Entries.{Finding, Mark, Taken, Expanded, Entry, Successor, Takes, At, IsNext, with_mark, states}
 use Rattle.book.specs.Entries.{is_expanded, is_open}
+use Rattle.replay.specs.Schedule.{AreOneBy, StepMachine, IsMachine, Merges}
+use Rattle.book.specs.Unknown.{with_successors, unknown}
 use Rattle.book.specs.Law.{IsLawful, IsExpansion}
 use Rattle.book.specs.Layers.{IsLeftTo, NoneTaken, GrowsFrom, IsThrough}
 use Rattle.book.proofs.Closed.{worked_out}

@@ -1,26 +1,21 @@
 -- What follows for the entries of a book. Its machine, which states count as one, and which findings are right are the
 -- book's own.
 use Rattle.std.proofs.Common.{◌≡◌, ℕ, ◌-◌, ◌<◌, ◌≤◌, ◌++◌, ◌∷◌, [], inl, inr, Bool, not, Option, Some, None, List}
-use Rattle.std.proofs.Common.{length}
-use Rattle.std.proofs.Common.{reverse, ◌∙◌, arith, position}
+use Rattle.std.proofs.Common.{length, reverse, ◌∙◌, arith, position}
 use Rattle.std.specs.List.{range_with_len}
 use Rattle.std.specs.declared.sync.Arc.{Arc}
 use Rattle.tree_machine.specs.Rules.{Rules}
 use Rattle.tree_machine.specs.Step.{Fits}
 use Rattle.tree_machine.specs.declared.state.State.{State}
 use Rattle.tree_machine.proofs.Lists.{get_at}
-use Rattle.book.specs.declared.entry.Mark.TheVariants.{Taken}
-use Rattle.book.specs.declared.entry.Origin.{Origin}
+use Rattle.book.specs.Entries.{Taken, Origin, Entry, Contents, At, IsNext, is_expanded, with_mark, with_marks, Finding}
 use Rattle.book.specs.Books.{machine_in, right_in, CountsAsOne, IsBook, IsLawfulIn}
-use Rattle.book.specs.Entries.{Entry, Contents, At, IsNext, is_expanded}
-use Rattle.book.specs.Entries.{with_mark, with_marks}
 use Rattle.book.specs.Law.{FindsAlike, IsLawfulBook, StandsForReached}
 use Rattle.book.specs.Labels.{same_as}
 use Rattle.book.specs.Slots.{AllStates, AreStatesOf}
 use Rattle.book.specs.Layers.{IsExpandedTo, IsLeftTo}
 use Rattle.book.specs.Ways.{IsWay}
 use Rattle.replay.specs.Schedule.{after, AreOneBy, IsDecided, StepMachine}
-use Rattle.replay.specs.declared.finding.Finding.{Finding}
 use Rattle.std.proofs.lemmas.Bool.{cases_lt}
 use Rattle.book.proofs.Agreeing.{book_as, finds_as, reached_as}
 use Rattle.book.proofs.Coverage.{stands_along}

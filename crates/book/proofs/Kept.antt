@@ -1,13 +1,10 @@
 -- A book stays lawful.
 use Rattle.std.proofs.Common.{◌≡◌, ◌≢◌, ℕ, ◌+◌, ◌<◌, ◌≤◌, inl, inr, Bool, true, false, Some, List, [], ◌++◌, length}
 use Rattle.std.proofs.Common.{map, refl, sym, ◌∙◌, append-nil, arith, slice_get}
-use Rattle.book.specs.declared.entry.Mark.{Mark}
+use Rattle.book.specs.Entries.{Mark, Finding, Taken, Expanded, Entry, Successor, At, IsNext, with_mark, opened, states}
 use Rattle.std.proofs.lemmas.Option.{slice_get_within}
 use Rattle.tree_machine.proofs.Lists.{get-append_cases, get-append_left, get-append_right, get-map, map-get}
-use Rattle.replay.specs.declared.finding.Finding.{Finding}
-use Rattle.book.specs.declared.entry.Mark.TheVariants.{Taken, Expanded}
 use Rattle.replay.specs.Schedule.{AreOneBy, StepMachine, IsMachine, Merges}
-use Rattle.book.specs.Entries.{Entry, Successor, At, IsNext, with_mark, opened, states}
 use Rattle.book.specs.Unknown.{with_successors, unknown}
 use Rattle.book.specs.Layers.{GrowsFrom, NoneTaken}
 use Rattle.book.specs.Law.{StandsFor, IsStep, IsLawful, IsExpansion}

@@ -7,8 +7,7 @@ use Rattle.std.proofs.lemmas.List.{map-append}
 use Rattle.std.proofs.lemmas.List.Folds.{map_fixed}
 use Rattle.std.proofs.lemmas.Option.{get_or_from_slice_get}
 use Rattle.tree_machine.proofs.Lists.{get_at, get-map}
-use Rattle.book.specs.declared.entry.Mark.{Mark}
-use Rattle.book.specs.Entries.{Entry, Successor, opened, states, with_mark, with_marks}
+use Rattle.book.specs.Entries.{Mark, Entry, Successor, opened, states, with_mark, with_marks}
 use Rattle.book.specs.Unknown.{knows, unknown}
 use Rattle.book.specs.Labels.{AreKnownBy, Kept, labelled, same_as, same_label, steps_of}
 use Rattle.book.specs.Slots.{with_steps}

@@ -1,18 +1,16 @@
 -- A book stays lawful, its totals included.
-use Rattle.std.proofs.Common.{◌≡◌, ℕ, ◌+◌, ◌^◌, ◌<◌, ◌≤◌, Bool, None, is_some, List, []}
-use Rattle.std.proofs.Common.{◌∷◌, length, map, get_or, refl, sym, ap, ◌∙◌, arith, length-append}
+use Rattle.std.proofs.Common.{◌≡◌, ℕ, ◌+◌, ◌^◌, ◌<◌, ◌≤◌, Bool, None, is_some, List, [], ◌∷◌, length, map, get_or, refl}
+use Rattle.std.proofs.Common.{sym, ap, ◌∙◌, arith, length-append}
 use Rattle.std.specs.List.{range_with_len}
 use Rattle.std.proofs.Math.ListN.{length-map}
 use Rattle.std.proofs.lemmas.Bool.{cond_both}
 use Rattle.std.proofs.lemmas.List.FromFn.{length-range_with_len}
 use Rattle.std.proofs.lemmas.List.Sums.{sum_by-append, sum_by-le, length-filter, count_by-le-length}
 use Rattle.sched_program.specs.Program.{Program}
-use Rattle.replay.specs.declared.finding.Finding.{Finding}
+use Rattle.book.specs.Entries.{Finding, Open, Taken, Expanded, Entry, Successor, Contents, At, IsNext, contents_of}
+use Rattle.book.specs.Entries.{is_expanded, opened, states, with_mark}
 use Rattle.options.specs.declared.options.Merge.{Merge}
-use Rattle.book.specs.declared.entry.Mark.TheVariants.{Open, Taken, Expanded}
 use Rattle.replay.specs.Schedule.{AreOneBy, StepMachine, IsMachine, Merges, enabled_threads}
-use Rattle.book.specs.Entries.{Entry, Successor, Contents, At, IsNext, contents_of, is_expanded, opened, states}
-use Rattle.book.specs.Entries.{with_mark}
 use Rattle.book.specs.Unknown.{with_successors, unknown}
 use Rattle.book.specs.Law.{IsExpansion, IsLawfulBook, steps_entered}
 use Rattle.book.proofs.EntryLemmas.{length-with_mark, sum-opened, sum-with_mark}
@@ -40,6 +38,8 @@ module _ {X S : Type 0} (m : StepMachine S) (same : S → S → Bool) (right : S
       (contents_of x p k n (record { state = s; finding = f; origin = None; mark = Open } ∷ []) 0)
   opened_book x p k n s f is_start is_right is_fit some bounded =
       let e : Entry S = record { state = s; finding = f; origin = None; mark = Open } in
+      let none : (i : ℕ) (d : Entry S) → At (e ∷ []) i d → m.steps d.state ≡ m.steps s =
+      λ i d at. rw (← (get-single e i d at).1) refl in
       record {
         law = record {
           start = (e, refl, is_start, refl);
@@ -48,9 +48,9 @@ module _ {X S : Type 0} (m : StepMachine S) (same : S → S → Bool) (right : S
           findings = (λ i d at. rw (← (get-single e i d at).1) is_right);
           fit = (λ i d at. rw (← (get-single e i d at).1) is_fit);
           stands = (λ i t d r at done leads. let never = rw (← (get-single e i d at).1) at done in cc);
-          ordered = (λ i j d g at_i at_j le. rw (← (get-single e i d at_i).1, ← (get-single e j g at_j).1) (omega arith));
-          least = (λ i j d g at_i taken at_j h. rw (← (get-single e i d at_i).1, ← (get-single e j g at_j).1) (omega arith));
-          near = (λ i j d g at_i h at_j. rw (← (get-single e i d at_i).1, ← (get-single e j g at_j).1) (omega arith));
+          ordered = (λ i j d g at_i at_j le. omega (arith, none i d at_i, none j g at_j));
+          least = (λ i j d g at_i taken at_j h. omega (arith, none i d at_i, none j g at_j));
+          near = (λ i j d g at_i h at_j. omega (arith, none i d at_i, none j g at_j));
         };
         within = some;
         limit = bounded;

@@ -1,6 +1,5 @@
 -- What was found, or another value where nothing was.
-use Rattle.std.proofs.Common.{◌≡◌, Option, Some, None, IsSome, refl, sym, true≢false}
-use Rattle.std.specs.Prelude.{IfSome, IfNone, unwrap_or}
+use Rattle.std.proofs.Common.{◌≡◌, Option, Some, None, IsSome, refl, sym, true≢false, IfSome, IfNone, unwrap_or}
 
 pub some_value : {X : Type 0} (o : Option X) → IsSome o → (x : X) × (o ≡ Some x)
 some_value None h = absurd (true≢false (sym h))

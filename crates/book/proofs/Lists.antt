@@ -1,6 +1,6 @@
 -- Lists that grow.
-use Rattle.std.proofs.Common.{◌≡◌, ℕ, zero, suc, inl, inr, None, Some, List, [], ◌∷◌, ◌++◌, map}
-use Rattle.std.proofs.Common.{refl, ap, slice_get, subst}
+use Rattle.std.proofs.Common.{◌≡◌, ℕ, zero, suc, inl, inr, None, Some, List, [], ◌∷◌, ◌++◌, map, refl, ap, slice_get}
+use Rattle.std.proofs.Common.{subst}
 use Rattle.tree_machine.proofs.Lists.{get-append_cases}
 
 pub map-map : {X Y Z : Type 0} (f : Y → Z) (g : X → Y) (xs : List X) → map f (map g xs) ≡ map (λ x. f (g x)) xs

@@ -1,15 +1,14 @@
 -- Which entry is next.
 use Rattle.std.proofs.Common.{◌≡◌, ℕ, ◌<◌, ◌≤◌, inl, inr, Bool, true, false, not, Some, None, List, [], ◌∷◌, length}
-use Rattle.std.proofs.Common.{arith, refl, slice_get, position}
+use Rattle.std.proofs.Common.{arith, refl, slice_get, position, lt-ltb}
 use Rattle.std.specs.List.{position_or_len}
-use Rattle.std.proofs.lemmas.Bool.{cases_lt, lt-ltb}
+use Rattle.std.proofs.lemmas.Bool.{cases_lt}
 use Rattle.std.proofs.lemmas.Option.{get_or_from_slice_get, slice_get_within}
 use Rattle.std.proofs.lemmas.List.Quantifiers.{position-Some}
 use Rattle.std.proofs.lemmas.List.Sums.{fails_before_first}
 use Rattle.tree_machine.proofs.Lists.{get_at}
-use Rattle.replay.specs.declared.finding.Finding.{Finding}
+use Rattle.book.specs.Entries.{Finding, Entry, At, IsNext, is_open, is_expanded}
 use Rattle.replay.specs.Schedule.{AreOneBy, StepMachine}
-use Rattle.book.specs.Entries.{Entry, At, IsNext, is_open, is_expanded}
 use Rattle.book.specs.Law.{IsLawful}
 use Rattle.book.proofs.Marks.{open_from, expanded_from, left_passes, not_expanded_from, open_passes}
 

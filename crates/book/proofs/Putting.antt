@@ -1,19 +1,16 @@
 -- The steps of a taken entry are inserted, and it is marked expanded: what follows for the book.
-use Rattle.std.proofs.Common.{◌≡◌, ℕ, suc, ◌+◌, ◌-◌, ◌^◌, ◌<◌, ◌≤◌, inl, inr, Bool, Some, IsSome}
-use Rattle.std.proofs.Common.{List, [], ◌∷◌, ◌++◌, length, map, refl, sym, ◌∙◌, arith, slice_get}
-use Rattle.std.proofs.Common.{length-append}
-use Rattle.std.specs.List.{All}
+use Rattle.std.proofs.Common.{◌≡◌, ℕ, suc, ◌+◌, ◌-◌, ◌^◌, ◌<◌, ◌≤◌, inl, inr, Bool, Some, IsSome, List, [], ◌∷◌, ◌++◌}
+use Rattle.std.proofs.Common.{length, map, refl, sym, ◌∙◌, arith, slice_get, length-append, All}
 use Rattle.std.proofs.lemmas.Bool.{cond_both}
 use Rattle.std.proofs.lemmas.Option.{get_or_from_slice_get, slice_get_within}
 use Rattle.std.proofs.Math.ListN.{length-map}
 use Rattle.tree_machine.specs.Rules.{Rules}
 use Rattle.tree_machine.specs.declared.state.State.{State}
 use Rattle.tree_machine.proofs.Lists.{get-append_left, get_at, map-get}
-use Rattle.book.specs.declared.entry.Mark.TheVariants.{Taken, Expanded}
+use Rattle.book.specs.Entries.{Taken, Expanded, AreNew, At, Contents, Enters, Entry, IsFullFor, IsTaken, Successor}
+use Rattle.book.specs.Entries.{opened, states, with_mark}
 use Rattle.book.specs.Books.{machine_in, right_in, CountsAsOne, IsBook}
 use Rattle.book.specs.ByLabel.{AreStepsOf}
-use Rattle.book.specs.Entries.{AreNew, At, Contents, Enters, Entry, IsFullFor, IsTaken, Successor, opened}
-use Rattle.book.specs.Entries.{states, with_mark}
 use Rattle.book.specs.Unknown.{knows, unknown, with_successors}
 use Rattle.book.specs.Labels.{AreKnownBy, Kept, same_as, same_label, steps_of}
 use Rattle.book.specs.Slots.{with_steps}

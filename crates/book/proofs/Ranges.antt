@@ -1,6 +1,6 @@
 -- Entries in a row that are taken together.
-use Rattle.std.proofs.Common.{◌≡◌, ◌≢◌, ℕ, zero, suc, ◌+◌, ◌-◌, ◌<◌, ◌≤◌, inl, inr, Bool, Option, Some, List, []}
-use Rattle.std.proofs.Common.{◌∷◌, ◌++◌, length, map, refl, sym, ◌∙◌, arith, slice_get, position}
+use Rattle.std.proofs.Common.{◌≡◌, ◌≢◌, ℕ, zero, suc, ◌+◌, ◌-◌, ◌<◌, ◌≤◌, inl, inr, Bool, Option, Some, List, [], ◌∷◌}
+use Rattle.std.proofs.Common.{◌++◌, length, map, refl, sym, ◌∙◌, arith, slice_get, position}
 use Rattle.std.specs.List.{range_with_len}
 use Rattle.std.specs.declared.sync.Arc.{Arc}
 use Rattle.std.proofs.lemmas.Bool.{cases_lt}
@@ -8,12 +8,9 @@ use Rattle.std.proofs.lemmas.List.{map_push}
 use Rattle.std.proofs.lemmas.List.FromFn.{get_or-range_with_len, length-range_with_len}
 use Rattle.std.proofs.lemmas.Option.{get_or_from_slice_get, slice_get_within}
 use Rattle.tree_machine.proofs.Lists.{get_at, map-get}
-use Rattle.replay.specs.declared.finding.Finding.{Finding}
-use Rattle.book.specs.declared.entry.Mark.{Mark}
-use Rattle.book.specs.declared.entry.Mark.TheVariants.{Open, Taken, Expanded}
+use Rattle.book.specs.Entries.{Finding, Mark, Open, Taken, Expanded, Entry, Contents, At, IsInLayer, IsNext, TakesLayer}
+use Rattle.book.specs.Entries.{TakesRange, is_open, with_mark, with_marks}
 use Rattle.replay.specs.Schedule.{AreOneBy, StepMachine, IsMachine, Merges}
-use Rattle.book.specs.Entries.{Entry, Contents, At, IsInLayer, IsNext, TakesLayer, TakesRange, is_open, with_mark}
-use Rattle.book.specs.Entries.{with_marks}
 use Rattle.book.specs.Law.{IsLawfulBook}
 use Rattle.book.specs.Slots.{AreCursors, AreStatesOf, IsOpenFrom}
 use Rattle.book.proofs.EntryLemmas.{each-range, each-with_mark, length-with_mark}
@@ -92,7 +89,8 @@ pub record IsLayerAt {S : Type 0} (steps : S → ℕ) (es : List (Entry S)) (a z
   pub some : a < z
   pub later : (i : ℕ) (e : Entry S) → At es i e → z ≤ i → count < steps e.state
 
-module _ {S : Type 0} {steps : S → ℕ} {k a z : ℕ} {es : List (Entry S)} (row : IsRow steps k es a z) (some : a < z) where
+module _ {S : Type 0} {steps : S → ℕ} {k a z : ℕ} {es : List (Entry S)} (row : IsRow steps k es a z)
+    (some : a < z) where
   first_next : (e : Entry S) × IsNext steps es a e
   first_next =
       let at = get_at es a (omega (arith, row.within)) in
@@ -192,7 +190,8 @@ layer_at {S} {steps} {es} {a} {z} {k} next first above at below beyond within =
       count = k;
       row = record {
         below = (λ i d there less opens.
-            cc (open_passes d.mark opens, (first_passes (λ (r : Entry S). is_open r.mark) es a first).3 i d less there));
+            let f = first_passes (λ (r : Entry S). is_open r.mark) es a first in
+            cc (open_passes d.mark opens, f.3 i d less there));
         are_open = (λ i d there ge less. (above i d there ge, below i d there less));
         least = (λ i d there left. omega (arith, here, next.1.fewest i d there left));
         within = within;

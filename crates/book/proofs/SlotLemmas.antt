@@ -10,9 +10,7 @@ use Rattle.std.proofs.lemmas.Bool.{cases_Bool, or_parts}
 use Rattle.std.proofs.lemmas.List.{map-append}
 use Rattle.tree_machine.specs.Laws.CellOrder.{nat_equivalence}
 use Rattle.indexmap.specs.IndexMap.{insert_entry, set_value_at}
-use Rattle.book.specs.declared.entry.Mark.{Mark}
-use Rattle.book.specs.declared.entry.Mark.TheVariants.{Open}
-use Rattle.book.specs.Entries.{Entry, Successor, opened, with_mark}
+use Rattle.book.specs.Entries.{Mark, Open, Entry, Successor, opened, with_mark}
 use Rattle.book.specs.Labels.{Kept, same_label, steps_of}
 use Rattle.book.specs.Unknown.{knows, unknown}
 use Rattle.book.specs.Slots.{IsGrown, entries_of, labels_of, row_of, with_rows, with_steps}
@@ -92,8 +90,8 @@ module _ {S : Type 0} (step : S → ℕ → Option S) (s : S) (i : ℕ) where
       let us = unknown same_label (labels_of old) xs in
       let known : labels_of mid ≡ labels_of old ++ map (λ (y : Successor (List ℕ)). y.state) us =
       rw so_far (simp (map-append, map-map)) in
-      rw (put, known, so_far, unknown_push same_label (labels_of old) xs x, map-append (row_of step s i) us, append_assoc)
-      refl
+      let more = unknown_push same_label (labels_of old) xs x in
+      rw (put, known, so_far, more, map-append (row_of step s i) us, append_assoc) refl
 
   pub grown : (old new : List (List ℕ × Entry S)) (xs : List (Successor (List ℕ))) → new ≡ with_rows step s i old xs
       → IsGrown old new

@@ -1,6 +1,5 @@
 -- States that count as one: they have the same findings and labels, and so have their steps.
-use Rattle.std.proofs.Common.{◌≡◌, ℕ, ◌++◌, ◌∷◌, [], ◌∙◌, List, Option, Some, None}
-use Rattle.std.proofs.Common.{ap, arith, refl, sym}
+use Rattle.std.proofs.Common.{◌≡◌, ℕ, ◌++◌, ◌∷◌, [], ◌∙◌, List, Option, Some, None, ap, arith, refl, sym}
 use Rattle.tree_machine.specs.Alike.{AreStatesAlike}
 use Rattle.tree_machine.specs.Flat.{number_code}
 use Rattle.tree_machine.specs.FormCode.{content_code, named_code, state_code}
@@ -17,12 +16,11 @@ use Rattle.sched_program.specs.Program.{Program, IsWithinLimits}
 use Rattle.sched_program.specs.declared.operation.OpId.{OpId}
 use Rattle.options.specs.declared.options.Merge.{Merge}
 use Rattle.options.specs.declared.options.Merge.TheVariants.{Exact, Names}
-use Rattle.replay.specs.declared.finding.Finding.{Finding}
+use Rattle.book.specs.Entries.{Finding, Successor}
 use Rattle.replay.specs.declared.finding.Finding.TheVariants as found
 use Rattle.book.specs.Books.{CountsAsOne}
 use Rattle.book.specs.ByLabel.{IsTakenOf, TakenView}
 use Rattle.book.specs.Decoding.{IsRead, IsSource, StandsIn}
-use Rattle.book.specs.declared.successor.Successor.{Successor}
 use Rattle.book.specs.Expanding.{Puts, PutsStep}
 use Rattle.replay.specs.Findings.{machine_of, IsFindingOf}
 use Rattle.book.specs.Labels.{label_by}

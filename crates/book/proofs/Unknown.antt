@@ -1,6 +1,6 @@
 -- What `unknown` keeps of a list of successors.
-use Rattle.std.proofs.Common.{◌≡◌, ℕ, zero, suc, ◌⊎◌, inl, inr, Bool, true, false, Some, List, [], ◌∷◌, ◌++◌}
-use Rattle.std.proofs.Common.{◌≤◌, arith, length, refl, sym, ap, ◌∙◌, ◌||◌, slice_get}
+use Rattle.std.proofs.Common.{◌≡◌, ℕ, zero, suc, ◌⊎◌, inl, inr, Bool, true, false, Some, List, [], ◌∷◌, ◌++◌, ◌≤◌}
+use Rattle.std.proofs.Common.{arith, length, refl, sym, ap, ◌∙◌, ◌||◌, slice_get}
 use Rattle.std.specs.List.{list_any}
 use Rattle.std.proofs.lemmas.List.Folds.{Any-from_list_any, list_any-append}
 use Rattle.std.proofs.lemmas.Bool.{cases_Bool, or_cases, or_parts}

@@ -4,10 +4,8 @@ use Rattle.std.proofs.Common.{sym, ap, ◌∙◌, arith, subst}
 use Rattle.std.proofs.lemmas.Bool.{cases_lt}
 use Rattle.std.proofs.lemmas.List.{reverse-append}
 use Rattle.std.proofs.lemmas.Option.{option_and_then_some, same_Some, slice_get_within}
-use Rattle.replay.specs.declared.finding.Finding.{Finding}
-use Rattle.book.specs.declared.entry.Origin.{Origin}
+use Rattle.book.specs.Entries.{Finding, Origin, Entry, At}
 use Rattle.replay.specs.Schedule.{AreOneBy, StepMachine, IsMachine, run, after}
-use Rattle.book.specs.Entries.{Entry, At}
 use Rattle.book.specs.Law.{IsLawful}
 use Rattle.book.specs.Ways.{IsWay}
 

@@ -2,8 +2,7 @@
 use Rattle.std.specs.Prelude.{◌≡◌, ◌≢◌, ℕ, ◌<◌, ◌≤◌, not, Option, Some, position, slice_get, List, ◌++◌, length, map}
 use Rattle.std.specs.Prelude.{take, unwrap_or}
 use Rattle.std.specs.declared.sync.Arc.{Arc}
-use Rattle.book.specs.declared.entry.Mark.TheVariants.{Open, Expanded}
-use Rattle.book.specs.Entries.{Entry, Successor, At, opened}
+use Rattle.book.specs.Entries.{Open, Expanded, Entry, Successor, At, opened}
 use Rattle.book.specs.Labels.{Kept, same_label, steps_of}
 use Rattle.book.specs.Unknown.{unknown}
 use Rattle.replay.specs.Findings.{is_sound}

@@ -1,6 +1,7 @@
 //! The entries by number and by label, and cursors to those that are looked for again and again.
-ghost use Rattle.std.specs.Prelude.{◌≡◌, ℕ, ◌+◌, ◌-◌, ◌^◌, ◌<◌, ◌≤◌, ◌∷◌, ◌⊎◌, [], count_by, length, nat_lt, not, position};
-ghost use Rattle.std.specs.Prelude.{true, OnOk, OnErr, IfOk, IfErr, IfSome, Some, None, IsSome, if◌then◌else◌, slice_get};
+ghost use Rattle.std.specs.Prelude.{◌≡◌, ℕ, ◌+◌, ◌-◌, ◌^◌, ◌<◌, ◌≤◌, ◌∷◌, ◌⊎◌, [], count_by, length, nat_lt, not};
+ghost use Rattle.std.specs.Prelude.{position, true, OnOk, OnErr, IfOk, IfErr, IfSome, Some, None, IsSome, slice_get};
+ghost use Rattle.std.specs.Prelude.{if◌then◌else◌};
 ghost use Rattle.std.specs.List.{All, range_with_len};
 ghost use Rattle.std.specs.Option.{option_copied};
 ghost use Rattle.tree_machine.specs.Step.{step};

@@ -1,6 +1,5 @@
 use Rattle.std.proofs.Common.{◌+◌, ◌-◌, ◌^◌, ◌<◌, ◌≤◌, inl, inr, ◌∙◌, refl, sym, arith}
-use Rattle.book.specs.declared.entry.Mark.TheVariants.{Expanded}
-use Rattle.book.specs.Entries.{IsTaken}
+use Rattle.book.specs.Entries.{Expanded, IsTaken}
 use Rattle.std.proofs.lemmas.Option.{same_Some}
 use Rattle.book.proofs.Labels.{known_mark}
 use Rattle.book.proofs.Putting.{book_entered, counts_fit, enters, full_for, here_enabled, put_in}

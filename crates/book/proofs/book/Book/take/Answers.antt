@@ -1,5 +1,5 @@
 use Rattle.std.proofs.Common.{refl}
-use Rattle.book.specs.declared.entry.Mark.TheVariants.{Taken}
+use Rattle.book.specs.Entries.{Taken}
 use Rattle.book.proofs.Cursors.{first_within}
 use Rattle.book.proofs.InBook.{next_taken, state_bounded, state_fits}
 use Rattle.book.proofs.Labels.{known_mark}

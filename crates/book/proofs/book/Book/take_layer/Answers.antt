@@ -1,6 +1,6 @@
 use Rattle.std.proofs.Common.{◌-◌, arith, refl}
 use Rattle.std.specs.List.{range_with_len}
-use Rattle.book.specs.declared.entry.Mark.TheVariants.{Taken}
+use Rattle.book.specs.Entries.{Taken}
 use Rattle.book.specs.Books.{machine_in}
 use Rattle.book.proofs.InBook.{layer_taken, states_bounded, states_fit}
 use Rattle.book.proofs.Labels.{known_marks}
@@ -18,9 +18,9 @@ layer : (g : Over) (c : After-first_above-end g)
     → IsLayerAt (machine_in g.M.Machine.rules c.args.self.now).steps c.args.self.now.entries c.in-Some.start
     c.first_above-end.result
 layer g c =
+    let start = c.in-Some.ensures in
     let end = c.first_above-end.ensures in
-    layer_at c.in-Some.ensures.next c.in-Some.ensures.open c.in-Some.ensures.above c.steps_to.ensures end.below end.above
-    end.within
+    layer_at start.next start.open start.above c.steps_to.ensures end.below end.above end.within
 
 pub invariant_of-self : goal.invariant_of-self
 invariant_of-self g c =

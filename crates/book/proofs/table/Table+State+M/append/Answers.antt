@@ -1,4 +1,5 @@
-use Rattle.std.proofs.Common.{◌≡◌, false, Bool, None, Some, Option, is_some, not, position, sym, ap, ◌∙◌, arith, inr, refl}
+use Rattle.std.proofs.Common.{◌≡◌, false, Bool, None, Some, Option, is_some, not, position, sym, ap, ◌∙◌, arith, inr}
+use Rattle.std.proofs.Common.{refl}
 use Rattle.tree_machine.specs.Step.{step}
 use Rattle.book.specs.Entries.{Entry}
 use Rattle.replay.specs.Findings.{is_sound}

@@ -1,4 +1,4 @@
-use Rattle.book.specs.declared.entry.Mark.TheVariants.{Expanded}
+use Rattle.book.specs.Entries.{Expanded}
 use Rattle.book.specs.Slots.{entries_of}
 use Rattle.book.proofs.EntryLemmas.{length-with_mark}
 use Rattle.book.proofs.SlotLemmas.{length-entries}
