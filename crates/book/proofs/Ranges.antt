@@ -4,7 +4,6 @@ use Rattle.std.proofs.Common.{◌++◌, length, map, refl, sym, ◌∙◌, arith
 use Rattle.std.specs.List.{range_with_len}
 use Rattle.std.specs.declared.sync.Arc.{Arc}
 use Rattle.std.proofs.lemmas.Bool.{cases_lt}
-use Rattle.std.proofs.lemmas.List.{map_push}
 use Rattle.std.proofs.lemmas.List.FromFn.{get_or-range_with_len, length-range_with_len}
 use Rattle.std.proofs.lemmas.Option.{get_or_from_slice_get, slice_get_within}
 use Rattle.tree_machine.proofs.Lists.{get_at, map-get}
@@ -14,7 +13,6 @@ use Rattle.replay.specs.Schedule.{AreOneBy, StepMachine, IsMachine, Merges}
 use Rattle.book.specs.Law.{IsLawfulBook}
 use Rattle.book.specs.Slots.{AreCursors, AreStatesOf, IsOpenFrom}
 use Rattle.book.proofs.EntryLemmas.{each-range, each-with_mark, length-with_mark}
-use Rattle.book.proofs.Lists.{all_pushed}
 use Rattle.book.proofs.ThreadSteps.{range-more}
 use Rattle.book.proofs.Next.{first_passes}
 use Rattle.book.proofs.Cursors.{cursors_taken}
@@ -22,7 +20,7 @@ use Rattle.book.proofs.LawfulBooks.{taken_book}
 use Rattle.book.proofs.Marks.{open_passes}
 
 -- ---- marks
-range_next : (a i : ℕ) → a ≤ i → range_with_len a (i + 1 - a) ≡ range_with_len a (i - a) ++ i ∷ []
+pub range_next : (a i : ℕ) → a ≤ i → range_with_len a (i + 1 - a) ≡ range_with_len a (i - a) ++ i ∷ []
 range_next a i le =
     let more : i + 1 - a ≡ i - a + 1 = omega arith in rw more (range-more a (i - a) i (omega arith))
 
@@ -45,18 +43,6 @@ module _ {S : Type 0} where
 
 -- ---- what is given out
 module _ {S A : Type 0} where
-  pub numbers_more : (range : List (ℕ × Arc S A)) (p : ℕ × Arc S A) (a i : ℕ)
-      → map (λ (x : ℕ × Arc S A). x.0) range ≡ range_with_len a (i - a) → p.0 ≡ i → a ≤ i
-      → map (λ (x : ℕ × Arc S A). x.0) (range ++ p ∷ []) ≡ range_with_len a (i + 1 - a)
-  numbers_more range p a i so_far number le =
-      rw (map_push (λ (x : ℕ × Arc S A). x.0) range p, so_far, number, range_next a i le) refl
-
-  pub states_more : (es : List (Entry S)) (range : List (ℕ × Arc S A)) (i : ℕ) (p : ℕ × Arc S A) (e : Entry S)
-      → AreStatesOf es range → At es i e → p.0 ≡ i → e.state ≡ p.1.value
-      → AreStatesOf es (range ++ p ∷ [])
-  states_more es range i p e so_far at number state =
-      all_pushed (λ q. (d : Entry S) × At es q.0 d × (d.state ≡ q.1.value)) range p so_far (e, rw number at, state)
-
   -- the numbers are those in a row
   number_is : (range : List (ℕ × Arc S A)) (a n k : ℕ) (p : ℕ × Arc S A)
       → map (λ (x : ℕ × Arc S A). x.0) range ≡ range_with_len a n → slice_get range k ≡ Some p → (p.0 ≡ a + k) × (k < n)
