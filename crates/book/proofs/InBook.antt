@@ -1,30 +1,25 @@
 -- What follows for the entries of a book. Its machine, which states count as one, and which findings are right are the
 -- book's own.
-use Rattle.std.proofs.Common.{◌≡◌, ℕ, ◌-◌, ◌<◌, ◌≤◌, ◌++◌, ◌∷◌, [], inl, inr, Bool, not, Option, Some, None, List}
-use Rattle.std.proofs.Common.{length, reverse, ◌∙◌, arith, position}
+use Rattle.std.proofs.Common.{◌≡◌, ℕ, ◌-◌, ◌<◌, ◌≤◌, inl, inr, Bool, not, Some, List}
+use Rattle.std.proofs.Common.{arith, position}
 use Rattle.std.specs.List.{range_with_len}
 use Rattle.std.specs.declared.sync.Arc.{Arc}
 use Rattle.tree_machine.specs.Rules.{Rules}
 use Rattle.tree_machine.specs.Step.{Fits}
 use Rattle.tree_machine.specs.declared.state.State.{State}
-use Rattle.tree_machine.proofs.Lists.{get_at}
-use Rattle.book.specs.Entries.{Taken, Origin, Entry, Contents, At, IsNext, is_expanded, with_mark, with_marks, Finding}
-use Rattle.book.specs.Books.{machine_in, right_in, CountsAsOne, IsBook, IsLawfulIn}
-use Rattle.book.specs.Law.{FindsAlike, IsLawfulBook, StandsForReached}
+use Rattle.book.specs.Entries.{Taken, Entry, Contents, At, IsNext, is_expanded, with_mark, with_marks, Finding}
+use Rattle.book.specs.Books.{machine_in, right_in, CountsAsOne, IsBook}
+use Rattle.book.specs.Law.{IsLawfulBook}
 use Rattle.book.specs.Labels.{same_as}
 use Rattle.book.specs.Slots.{AllStates, AreStatesOf}
 use Rattle.book.specs.Layers.{IsExpandedTo, IsLeftTo}
-use Rattle.book.specs.Ways.{IsWay}
-use Rattle.replay.specs.Schedule.{after, AreOneBy, IsDecided, StepMachine}
+use Rattle.replay.specs.Schedule.{AreOneBy, StepMachine}
 use Rattle.std.proofs.lemmas.Bool.{cases_lt}
-use Rattle.book.proofs.Agreeing.{book_as, finds_as, reached_as}
-use Rattle.book.proofs.Coverage.{stands_along}
 use Rattle.book.proofs.Growth.{steps_bounded}
 use Rattle.book.proofs.LawfulBooks.{taken_book}
 use Rattle.book.proofs.Marks.{expanded_from, not_expanded_from}
 use Rattle.book.proofs.Next.{first_passes}
 use Rattle.book.proofs.Ranges.{IsLayerAt, range_book}
-use Rattle.book.proofs.Ways.{one_way, step_of, way_back, way_ends, way_run}
 
 module _ {Machine Memory Place Form : Type 0} {rules : Machine → Rules Memory Place}
     {label_of : State Machine Memory Place Form → List ℕ} {b : Contents Machine (State Machine Memory Place Form)}
@@ -108,52 +103,3 @@ module _ {Machine Memory Place Form : Type 0} {rules : Machine → Rules Memory 
               ((first_passes (λ (e : Entry S). not (is_expanded e.mark)) b.entries a left).3 i e l at)
           | inr le ↦ absurd (omega (arith, at_a.2, book.law.law.ordered a i at_a.0 e at_a.1 at le))
         ]
-
-  -- what is known by labels is so by what counts as one
-  pub lawful_in : IsLawfulIn rules b
-  lawful_in = book_as m book.machine (AreOneBy same_in) Same book.counts right b book.law
-
-  pub finds_in : FindsAlike m Same right
-  finds_in = finds_as m book.machine (AreOneBy same_in) Same book.counts right book.findings
-
-  pub reached_in : StandsForReached m Same b.entries
-  reached_in =
-      reached_as m book.machine (AreOneBy same_in) Same book.counts b.entries book.law.law.fit
-      (stands_along m same_in right book.machine book.merges b.entries book.law.law)
-
-  pub decided_in : IsDecided m Same
-  decided_in = (same_in, book.merges, book.counts)
-
-  -- the way to an entry, followed back
-  module _ (now : Contents Machine S) (view : b ≡ now) where
-    module _ (i id : ℕ) (c : List ℕ) (o : Option Origin)
-        (entry : (e : Entry S) × At b.entries i e × (e.origin ≡ o)) where
-      pub earlier_origin : (origin : Origin) → o ≡ Some origin → origin.parent < i
-      earlier_origin origin is =
-          (step_of m same_in right b.entries book.law.law i entry.0 origin entry.1 (entry.2 ∙ is)).2
-
-      pub one_back : (origin : Origin) → o ≡ Some origin → IsWay now.entries i (reverse c) id
-          → (origin.parent < length now.entries)
-          × IsWay now.entries origin.parent (reverse (c ++ origin.thread ∷ [])) id
-      one_back origin is =
-          rw (← view) (way_back m same_in right b.entries book.law.law i id c entry.0 origin entry.1 (entry.2 ∙ is))
-
-      pub at_start : o ≡ None → IsWay now.entries i c id → IsWay now.entries 0 c id
-      at_start is =
-          rw (← view) (way_ends m same_in right b.entries book.law.law i id c entry.0 entry.1 (entry.2 ∙ is))
-
-    pub way_leads_to : (c : List ℕ) (id : ℕ) → id < length now.entries → IsWay now.entries 0 c id
-        → (e : Entry S) × At now.entries id e × (after (machine_in rules now) c ≡ Some e.state)
-        × (length c ≡ e.state.steps)
-    way_leads_to c id =
-        rw (← view) (λ within way.
-        let e = get_at b.entries id within in
-        let leads = way_run m same_in right b.entries book.law.law book.machine c id e.0 e.1 way in
-        (e.0, e.1, leads.0, leads.1))
-
-    pub no_other_way : (c d : List ℕ) (id : ℕ) → id < length now.entries → IsWay now.entries 0 c id
-        → IsWay now.entries 0 d id → d ≡ c
-    no_other_way c d id =
-        rw (← view) (λ within.
-        let e = get_at b.entries id within in
-        one_way m same_in right b.entries book.law.law book.machine c d id e.0 e.1)

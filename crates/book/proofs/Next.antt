@@ -10,7 +10,7 @@ use Rattle.tree_machine.proofs.Lists.{get_at}
 use Rattle.book.specs.Entries.{Finding, Entry, At, IsNext, is_open, is_expanded}
 use Rattle.replay.specs.Schedule.{AreOneBy, StepMachine}
 use Rattle.book.specs.Law.{IsLawful}
-use Rattle.book.proofs.Marks.{open_from, expanded_from, left_passes, not_expanded_from, open_passes}
+use Rattle.book.proofs.Marks.{open_from, left_passes, not_expanded_from, open_passes}
 
 module _ {X : Type 0} (p : X → Bool) where
   -- the first that passes does, and none before it
@@ -47,18 +47,6 @@ module _ {X : Type 0} (p : X → Bool) where
 
 module _ {S : Type 0} (m : StepMachine S) (same : S → S → Bool) (right : S → Finding → Type 0) (es : List (Entry S))
     (law : IsLawful m (AreOneBy same) right es) where
-  -- where no entry is open, or all are expanded, none is next
-  pub no_next_open : position (λ (r : Entry S). is_open r.mark) es ≡ None → (i : ℕ) (e : Entry S)
-      → IsNext m.steps es i e → ⊥
-  no_next_open h i e next =
-      cc (open_passes e.mark next.is_open, none_passes (λ (r : Entry S). is_open r.mark) es h i e next.entry)
-
-  pub no_next_expanded : position (λ (r : Entry S). not (is_expanded r.mark)) es ≡ None → (i : ℕ) (e : Entry S)
-      → IsNext m.steps es i e → ⊥
-  no_next_expanded h i e next =
-      let done = none_passes (λ (r : Entry S). not (is_expanded r.mark)) es h i e next.entry in
-      cc (next.is_open, expanded_from e.mark done)
-
   -- a is the first that is not expanded, which has j steps, and b the first open one, which has k
   module _ (a b : ℕ) (first : position (λ (r : Entry S). not (is_expanded r.mark)) es ≡ Some a)
       (open_one : position (λ (r : Entry S). is_open r.mark) es ≡ Some b) {j k : ℕ}
