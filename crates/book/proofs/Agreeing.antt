@@ -1,12 +1,10 @@
 -- What holds by one relation of states holds by another that agrees with it on the states of the machine.
-use Rattle.std.proofs.Common.{ℕ, List}
-use Rattle.std.specs.Prelude.{◌↔◌}
-use Rattle.replay.specs.declared.finding.Finding.{Finding}
+use Rattle.std.proofs.Common.{ℕ, List, ◌↔◌}
+use Rattle.book.specs.Entries.{Finding, At, Contents, Entry}
 use Rattle.book.specs.Counts.{IsCount}
-use Rattle.book.specs.Entries.{At, Contents, Entry}
 use Rattle.book.specs.Law.{FindsAlike, IsLawfulBook, StandsFor, StandsForReached}
 use Rattle.replay.specs.Schedule.{StepMachine, IsMachine, IsReachableWithin}
-use Rattle.book.proofs.Ways.{fits_after, fits_along}
+use Rattle.book.proofs.Ways.{along, fits_after}
 
 -- relations that are so of the same pairs of states of the machine
 abbrev pub Agree : {S : Type 0} → StepMachine S → (S → S → Type 0) → (S → S → Type 0) → Type 0
@@ -39,7 +37,7 @@ module _ {S : Type 0} (m : StepMachine S) (machine : IsMachine m) (R Q : S → S
     -- and entries that stand for what is reached by one relation do so by the other
     pub reached_as : StandsForReached m R es → StandsForReached m Q es
     reached_as reached n done c r s fits (i, e, at, one, bounded) leads short =
-        stands_as s (fits_along m machine c r s fits leads)
+        stands_as s (along m machine c r s fits leads).0
         (reached n done c r s fits (i, e, at, (agree e.state r (fit i e at) fits).1 one, bounded) leads short)
 
   module _ (right : S → Finding → Type 0) where

@@ -1,8 +1,7 @@
 -- The states of a book with no entry left are closed, so they stand for every state that a schedule reaches.
 use Rattle.std.proofs.Common.{◌≡◌, ℕ, Bool, true, not, Some, None, List, position}
-use Rattle.replay.specs.declared.finding.Finding.{Finding}
+use Rattle.book.specs.Entries.{Finding, Entry, is_expanded, states}
 use Rattle.replay.specs.Schedule.{AreOneBy, StepMachine, IsMachine, Merges}
-use Rattle.book.specs.Entries.{Entry, is_expanded, states}
 use Rattle.book.specs.Law.{IsLawful}
 use Rattle.replay.specs.Findings.{IsSound}
 use Rattle.replay.specs.Closed.{AreClosed, HoldsForEvery}

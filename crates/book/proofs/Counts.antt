@@ -1,33 +1,33 @@
 -- How many states the schedules reach.
-use Rattle.std.proofs.Common.{◌≡◌, ℕ, zero, suc, ◌<◌, ◌≤◌, inl, inr, Bool, true, false, Some, List, [], ◌∷◌}
-use Rattle.std.proofs.Common.{◌++◌, length, take, count_by, get_or, refl, sym, ap, ◌∙◌, arith, slice_get, leb}
+use Rattle.std.proofs.Common.{◌≡◌, ℕ, zero, suc, ◌<◌, ◌≤◌, inl, inr, Bool, true, false, Some, List, [], ◌∷◌, ◌++◌}
+use Rattle.std.proofs.Common.{length, take, drop, count_by, get_or, refl, sym, ap, ◌∙◌, arith, slice_get, leb}
+use Rattle.std.proofs.Common.{leb-false, leb-true, length-take-le, take-append-drop}
 use Rattle.std.proofs.Math.ListN.{length-map}
 use Rattle.std.specs.List.{prefix_len}
-use Rattle.std.proofs.lemmas.Bool.{cases_lt, leb-false, leb-true, lt-leb}
+use Rattle.std.proofs.lemmas.Bool.{cases_lt, lt-leb}
 use Rattle.std.proofs.lemmas.Option.{get_or_from_slice_get, slice_get-get_or, slice_get_within}
-use Rattle.std.proofs.lemmas.List.{length_push, length-take-le}
+use Rattle.std.proofs.lemmas.List.{length_push}
 use Rattle.std.proofs.lemmas.List.Sums.{sum_by-cons, prefix_len-le-length, prefix_len_passes, prefix_len_stops}
-use Rattle.replay.specs.declared.finding.Finding.{Finding}
-use Rattle.book.specs.declared.entry.Mark.TheVariants.{Expanded}
+use Rattle.tree_machine.proofs.Lists.{get-append_left}
+use Rattle.book.specs.Entries.{Finding, Expanded, Entry, At, states}
 use Rattle.replay.specs.Schedule.{StepMachine, AreOneBy, IsMachine, Merges, after}
-use Rattle.book.specs.Entries.{Entry, At, states}
 use Rattle.book.specs.Law.{IsLawful}
 use Rattle.book.specs.Counts.{IsCount}
 use Rattle.replay.specs.Laws.Schedules.{run_push}
+use Rattle.book.proofs.EntryLemmas.{get-front}
 use Rattle.book.proofs.Unknown.{at-states, states-at}
 use Rattle.book.proofs.Coverage.{along_origins, stands_after}
 
-slice_get-take : {X : Type 0} (k : ℕ) (xs : List X) (i : ℕ) → i < k → slice_get (take k xs) i ≡ slice_get xs i
-slice_get-take zero xs i less = absurd (omega arith)
-slice_get-take (suc k) [] i less = refl
-slice_get-take (suc k) (x ∷ xs) zero less = refl
-slice_get-take (suc k) (x ∷ xs) (suc i) less = slice_get-take k xs i (omega arith)
+module _ {X : Type 0} (k : ℕ) (xs : List X) (within : k ≤ length xs) (i : ℕ) (x : X) where
+  get-take : slice_get (take k xs) i ≡ Some x → (i < k) × (slice_get xs i ≡ Some x)
+  get-take here = (
+    omega (arith, slice_get_within (take k xs) i x here, length-take-le k xs within),
+    rw (take-append-drop k xs) at (get-append_left (take k xs) (drop k xs) i x here),
+  )
 
-get-take : {X : Type 0} (k : ℕ) (xs : List X) → k ≤ length xs → (i : ℕ) (x : X) → slice_get (take k xs) i ≡ Some x
-    → (i < k) × (slice_get xs i ≡ Some x)
-get-take k xs within i x at =
-    let less : i < k = omega (arith, slice_get_within (take k xs) i x at, length-take-le k xs within) in
-    (less, sym (slice_get-take k xs i less) ∙ at)
+  take-get : i < k → slice_get xs i ≡ Some x → slice_get (take k xs) i ≡ Some x
+  take-get less here =
+      get-front (take k xs) (drop k xs) i x (rw take-append-drop here) (omega (arith, length-take-le k xs within))
 
 -- where the first k pass and no other does, k is their number
 pub count_upto : {X : Type 0} (p : X → Bool) (xs : List X) (k : ℕ) → k ≤ length xs
@@ -81,7 +81,7 @@ module _ {S : Type 0} (m : StepMachine S) (same : S → S → Bool) (right : S �
         all = (λ s r.
             let w = stands_after m same right machine merges es law n done r.0 s r.1 r.2 in
             let less = above w.0 w.1 w.2 (omega (arith, steps_of s r.0 r.2, r.1, w.4)) in
-            (w.0, w.1.state, slice_get-take k (states es) w.0 less ∙ states-at es w.0 w.1 w.2, w.3));
+            (w.0, w.1.state, take-get k (states es) many w.0 w.1.state less (states-at es w.0 w.1 w.2), w.3));
       }
 
   -- the number of entries of at most n steps is the number of states that schedules of at most n steps reach, once all

@@ -1,12 +1,10 @@
 -- What a lawful book says of all schedules.
-use Rattle.std.proofs.Common.{◌≡◌, ℕ, zero, suc, ◌+◌, ◌<◌, ◌≤◌, ◌∙◌, inl, inr, Bool, Some, List, [], ◌∷◌, length}
-use Rattle.std.proofs.Common.{ap, sym, arith}
+use Rattle.std.proofs.Common.{◌≡◌, ℕ, zero, suc, ◌+◌, ◌<◌, ◌≤◌, ◌∙◌, inl, inr, Bool, Some, List, [], ◌∷◌, length, ap}
+use Rattle.std.proofs.Common.{sym, arith}
 use Rattle.std.proofs.lemmas.Bool.{cases_lt}
 use Rattle.std.proofs.lemmas.Option.{option_and_then_some, same_Some}
-use Rattle.replay.specs.declared.finding.Finding.{Finding}
-use Rattle.book.specs.declared.entry.Mark.TheVariants.{Expanded}
+use Rattle.book.specs.Entries.{Finding, Expanded, Entry, At}
 use Rattle.replay.specs.Schedule.{AreOneBy, StepMachine, IsMachine, Merges, run, after}
-use Rattle.book.specs.Entries.{Entry, At}
 use Rattle.book.specs.Law.{StandsFor, StandsForReached, IsLawful}
 
 module _ {S : Type 0} (m : StepMachine S) (Same : S → S → Type 0) (right : S → Finding → Type 0) (es : List (Entry S))

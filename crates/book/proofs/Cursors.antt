@@ -1,18 +1,18 @@
 -- The places among the entries that are looked for again and again.
 use Rattle.std.proofs.Common.{◌≡◌, ◌≢◌, ℕ, zero, suc, ◌+◌, ◌<◌, ◌≤◌, inl, inr, Bool, true, false, not, cond, Option}
 use Rattle.std.proofs.Common.{Some, None, List, [], ◌∷◌, ◌++◌, length, map, refl, sym, ap, ◌∙◌, arith, slice_get}
-use Rattle.std.proofs.Common.{IfNone, IfSome, position, length-append, ltb, get_or}
+use Rattle.std.proofs.Common.{IfSome, position, length-append, ltb, get_or, le-ltb, lt-ltb, ltb-true}
 use Rattle.std.specs.List.{position_or_len}
-use Rattle.std.proofs.lemmas.Bool.{cases_Bool, cases_lt, le-ltb, lt-ltb, not-false}
+use Rattle.std.proofs.lemmas.Bool.{cases_Bool, cases_lt, not-false}
 use Rattle.std.proofs.lemmas.List.Sums.{position_or_len_is}
 use Rattle.std.proofs.lemmas.Option.{cond_some, same_Some, slice_get-get_or, slice_get_within}
 use Rattle.tree_machine.proofs.Lists.{get-append_cases, get-append_left, get-map}
-use Rattle.book.specs.declared.entry.Mark.{Mark}
-use Rattle.book.specs.declared.entry.Mark.TheVariants.{Open, Taken, Expanded}
-use Rattle.book.specs.Entries.{Entry, Successor, At, IsTaken, is_open, is_expanded, opened, with_mark}
+use Rattle.book.specs.Entries.{Mark, Open, Taken, Expanded, Entry, Successor, At, IsTaken, is_open, is_expanded, opened}
+use Rattle.book.specs.Entries.{with_mark}
 use Rattle.replay.specs.Findings.{is_sound}
-use Rattle.book.specs.Slots.{IsFirstLeft, AreCursors}
+use Rattle.book.specs.Slots.{IsFirstLeft, IsOpenFrom, AreCursors}
 use Rattle.book.proofs.EntryLemmas.{each-with_mark, get-front, length-with_mark}
+use Rattle.book.proofs.Lists.{get-single}
 use Rattle.book.proofs.Next.{first_passes, none_passes}
 use Rattle.book.proofs.Marks.{expanded_fails, left_passes, open_fails, open_passes}
 
@@ -55,12 +55,6 @@ below_next P xs n x at is before i y there less =
       | inr ge ↦ (let e : i ≡ n = omega arith in let same : y ≡ x = cc in rw same is)
     ]
 
--- a search that begins at n finds the one there, if there is one
-found_there : (n l : ℕ) (r : Option ℕ) → IfSome r (λ i. (i ≡ n) × (n < l)) → IfNone r (l ≤ n)
-    → r ≡ cond (ltb n l) (Some n) None
-found_there n l (Some i) some none = rw (lt-ltb n l some.1) (ap Some some.0)
-found_there n l None some none = rw (le-ltb n l none) refl
-
 abbrev is_unsound : {S : Type 0} → Entry S → Bool
 is_unsound e = not (is_sound e.finding)
 
@@ -92,101 +86,100 @@ module _ {S : Type 0} (es : List (Entry S)) where
   all_sound fs h i e at less =
       not-false (is_sound e.finding) (none_passes is_unsound es h i e (get-front es fs i e at less))
 
-  module _ (next_open first_left : ℕ) (fault : Option ℕ) (cursors : AreCursors es next_open first_left fault) where
-    open_is : position (λ (e : Entry S). is_open e.mark) es ≡ cond (ltb next_open (length es)) (Some next_open) None
-    open_is =
-        position_is (λ (e : Entry S). is_open e.mark) es next_open cursors.within
-        (λ k y there less. open_fails y.mark (cursors.below k y there less))
-        (λ y there. open_passes y.mark (cursors.above next_open y there (omega arith)))
+module _ {S : Type 0} {es : List (Entry S)} {next_open first_left : ℕ} {fault : Option ℕ}
+    (cursors : AreCursors es next_open first_left fault) where
+  pub open_is : position (λ (e : Entry S). is_open e.mark) es ≡ cond (ltb next_open (length es)) (Some next_open) None
+  open_is =
+      position_is (λ (e : Entry S). is_open e.mark) es next_open cursors.within
+      (λ k y there less. open_fails y.mark (cursors.below k y there less))
+      (λ y there. open_passes y.mark (cursors.above next_open y there (omega arith)))
 
-    pub open_at : next_open < length es → position (λ (e : Entry S). is_open e.mark) es ≡ Some next_open
-    open_at less = rw (lt-ltb next_open (length es) less) at open_is
+  pub left_is : position (λ (e : Entry S). not (is_expanded e.mark)) es
+      ≡ cond (ltb first_left (length es)) (Some first_left) None
+  left_is =
+      position_is (λ (e : Entry S). not (is_expanded e.mark)) es first_left cursors.left.within
+      (λ k y there less. expanded_fails y.mark (cursors.left.expanded k y there less))
+      (λ y there. left_passes y.mark (cursors.left.stops y there))
 
-    pub open_within : (r : Option ℕ) → IfSome r (λ i. (i ≡ next_open) × (next_open < length es))
-        → IfNone r (length es ≤ next_open) → r ≡ position (λ (e : Entry S). is_open e.mark) es
-    open_within r some none = found_there next_open (length es) r some none ∙ sym open_is
+  -- all entries from the first open one on are open
+  pub open_from : (r : Option ℕ) → r ≡ cond (ltb next_open (length es)) (Some next_open) None
+      → IfSome r (IsOpenFrom es)
+  open_from None is = tt
+  open_from (Some i) is = rw (← (cond_some (ltb next_open (length es)) next_open i (sym is)).1) cursors.above
 
-    pub left_within : (r : Option ℕ) → IfSome r (λ i. (i ≡ first_left) × (first_left < length es))
-        → IfNone r (length es ≤ first_left) → r ≡ position (λ (e : Entry S). not (is_expanded e.mark)) es
-    left_within r some none =
-        found_there first_left (length es) r some none
-        ∙ sym (position_is (λ (e : Entry S). not (is_expanded e.mark)) es first_left cursors.left.within
-        (λ k y there less. expanded_fails y.mark (cursors.left.expanded k y there less))
-        (λ y there. left_passes y.mark (cursors.left.stops y there)))
+  -- where some entry is open, the cursor is at the first
+  pub cursor_is : (i : ℕ) → position (λ (e : Entry S). is_open e.mark) es ≡ Some i
+      → (i ≡ next_open) × (next_open < length es)
+  cursor_is i first =
+      let both = cond_some (ltb next_open (length es)) next_open i (sym open_is ∙ first) in
+      (sym both.1, ltb-true next_open (length es) both.0)
 
-    -- where some entry is open, the cursor is at the first
-    pub cursor_is : (i : ℕ) → position (λ (e : Entry S). is_open e.mark) es ≡ Some i → i ≡ next_open
-    cursor_is i first = sym (cond_some (ltb next_open (length es)) next_open i (sym open_is ∙ first)).1
+  -- the first open entry is taken
+  pub cursors_taken : next_open < length es → AreCursors (with_mark es next_open Taken) (next_open + 1) first_left fault
+  cursors_taken some =
+      let i = next_open in
+      let same_length : length (with_mark es i Taken) ≡ length es = length-with_mark es i Taken in
+      record {
+        below = each-with_mark (λ j d. j < i + 1 → d.mark ≢ Open) es i Taken (λ e at less q. cc)
+            (λ j d at apart less. cursors.below j d at (omega arith));
+        above = each-with_mark (λ j d. i + 1 ≤ j → d.mark ≡ Open) es i Taken (λ e at le. absurd (omega arith))
+            (λ j d at apart le. cursors.above j d at (omega arith));
+        within = omega arith;
+        left = record {
+          expanded = each-with_mark (λ j d. j < first_left → d.mark ≡ Expanded) es i Taken
+              (λ e at less. cc (cursors.above i e at (omega arith), cursors.left.expanded i e at less))
+              (λ j d at apart less. cursors.left.expanded j d at less);
+          stops = (λ d at. each-with_mark (λ j d. j ≡ first_left → d.mark ≢ Expanded) es i Taken (λ e at is q. cc)
+              (λ j d at apart is. cursors.left.stops d (rw is at at)) first_left d at refl);
+          within = omega (arith, cursors.left.within);
+        };
+        first_fault = cursors.first_fault ∙ sym (fault-with_mark es i Taken);
+      }
 
-    -- the first open entry is taken
-    pub cursors_taken : (i : ℕ) → position (λ (e : Entry S). is_open e.mark) es ≡ Some i
-        → AreCursors (with_mark es i Taken) (i + 1) first_left fault
-    cursors_taken i first =
-        let is_next : i ≡ next_open = cursor_is i first in
-        let some : i < length es = first_within (λ (e : Entry S). is_open e.mark) es i first in
-        let same_length : length (with_mark es i Taken) ≡ length es = length-with_mark es i Taken in
-        record {
-          below = each-with_mark (λ j d. j < i + 1 → d.mark ≢ Open) es i Taken (λ e at less q. cc)
-              (λ j d at apart less. cursors.below j d at (omega arith));
-          above = each-with_mark (λ j d. i + 1 ≤ j → d.mark ≡ Open) es i Taken (λ e at le. absurd (omega arith))
-              (λ j d at apart le. cursors.above j d at (omega arith));
-          within = omega arith;
-          left = record {
-            expanded = each-with_mark (λ j d. j < first_left → d.mark ≡ Expanded) es i Taken
-                (λ e at less. cc (cursors.above i e at (omega arith), cursors.left.expanded i e at less))
-                (λ j d at apart less. cursors.left.expanded j d at less);
-            stops = (λ d at. each-with_mark (λ j d. j ≡ first_left → d.mark ≢ Expanded) es i Taken (λ e at is q. cc)
-                (λ j d at apart is. cursors.left.stops d (rw is at at)) first_left d at refl);
-            within = omega (arith, cursors.left.within);
-          };
-          first_fault = cursors.first_fault ∙ sym (fault-with_mark es i Taken);
-        }
+  -- a taken entry is expanded
+  pub still_expanded : (i : ℕ) (j : ℕ) (d : Entry S) → At (with_mark es i Expanded) j d → j < first_left
+      → d.mark ≡ Expanded
+  still_expanded i =
+      each-with_mark (λ j d. j < first_left → d.mark ≡ Expanded) es i Expanded (λ e at less. refl)
+      (λ j d at apart less. cursors.left.expanded j d at less)
 
-    -- a taken entry is expanded
-    pub still_expanded : (i : ℕ) (j : ℕ) (d : Entry S) → At (with_mark es i Expanded) j d → j < first_left
-        → d.mark ≡ Expanded
-    still_expanded i =
-        each-with_mark (λ j d. j < first_left → d.mark ≡ Expanded) es i Expanded (λ e at less. refl)
-        (λ j d at apart less. cursors.left.expanded j d at less)
+  pub cursors_expanded : (i : ℕ) → IsTaken es i → (left' : ℕ) → IsFirstLeft (with_mark es i Expanded) left'
+      → AreCursors (with_mark es i Expanded) next_open left' fault
+  cursors_expanded i taken left' is_left = record {
+    below = each-with_mark (λ j d. j < next_open → d.mark ≢ Open) es i Expanded (λ e at less q. cc)
+        (λ j d at apart less. cursors.below j d at less);
+    above = each-with_mark (λ j d. next_open ≤ j → d.mark ≡ Open) es i Expanded
+        (λ e at le. cc (cursors.above i e at le, taken.1, taken.2, at)) (λ j d at apart le. cursors.above j d at le);
+    within = omega (arith, cursors.within, length-with_mark es i Expanded);
+    left = is_left;
+    first_fault = cursors.first_fault ∙ sym (fault-with_mark es i Expanded);
+  }
 
-    pub cursors_expanded : (i : ℕ) → IsTaken es i → (left' : ℕ) → IsFirstLeft (with_mark es i Expanded) left'
-        → AreCursors (with_mark es i Expanded) next_open left' fault
-    cursors_expanded i taken left' is_left = record {
-      below = each-with_mark (λ j d. j < next_open → d.mark ≢ Open) es i Expanded (λ e at less q. cc)
-          (λ j d at apart less. cursors.below j d at less);
-      above = each-with_mark (λ j d. next_open ≤ j → d.mark ≡ Open) es i Expanded
-          (λ e at le. cc (cursors.above i e at le, taken.1, taken.2, at)) (λ j d at apart le. cursors.above j d at le);
-      within = omega (arith, cursors.within, length-with_mark es i Expanded);
-      left = is_left;
-      first_fault = cursors.first_fault ∙ sym (fault-with_mark es i Expanded);
-    }
-
-    -- open entries are put behind
-    pub cursors_appended : (i : ℕ) (xs : List (Successor S)) (fault' : Option ℕ)
-        → fault' ≡ position (λ (e : Entry S). not (is_sound e.finding)) (es ++ map (opened i) xs)
-        → AreCursors (es ++ map (opened i) xs) next_open first_left fault'
-    cursors_appended i xs fault' is_fault =
-        let old = get-front es (map (opened i) xs) in
-        let place = get-append_cases es (map (opened i) xs) in
-        let longer = length-append es (map (opened i) xs) in
-        record {
-          below = (λ j d at less. cursors.below j d (old j d at (omega (arith, cursors.within))) less);
-          above = (λ j d at le. elim (place j d at) [ inl o ↦ cursors.above j d o le | inr r ↦ opened_open r.0 d r.2 ]);
-          within = omega (arith, cursors.within);
-          left = record {
-            expanded =
-                (λ j d at less. cursors.left.expanded j d (old j d at (omega (arith, cursors.left.within))) less);
-            stops = (λ d at. elim (place first_left d at) [
-              | inl o ↦ cursors.left.stops d o
-              | inr r ↦ (λ q. cc (opened_open r.0 d r.2, q))
-            ]);
-            within = omega (arith, cursors.left.within);
-          };
-          first_fault = is_fault;
-        }
-      where
-        opened_open : (k : ℕ) (d : Entry S) → slice_get (map (opened i) xs) k ≡ Some d → d.mark ≡ Open
-        opened_open k d at = rw (get-map (opened i) xs k d at).2 refl
+  -- open entries are put behind
+  pub cursors_appended : (i : ℕ) (xs : List (Successor S)) (fault' : Option ℕ)
+      → fault' ≡ position (λ (e : Entry S). not (is_sound e.finding)) (es ++ map (opened i) xs)
+      → AreCursors (es ++ map (opened i) xs) next_open first_left fault'
+  cursors_appended i xs fault' is_fault =
+      let old = get-front es (map (opened i) xs) in
+      let place = get-append_cases es (map (opened i) xs) in
+      let longer = length-append es (map (opened i) xs) in
+      record {
+        below = (λ j d at less. cursors.below j d (old j d at (omega (arith, cursors.within))) less);
+        above = (λ j d at le. elim (place j d at) [
+          | inl o ↦ cursors.above j d o le
+          | inr r ↦ rw (get-map (opened i) xs r.0 d r.2).2 refl
+        ]);
+        within = omega (arith, cursors.within);
+        left = record {
+          expanded = (λ j d at less. cursors.left.expanded j d (old j d at (omega (arith, cursors.left.within))) less);
+          stops = (λ d at. elim (place first_left d at) [
+            | inl o ↦ cursors.left.stops d o
+            | inr r ↦ (λ q. cc ((get-map (opened i) xs r.0 d r.2).2, q))
+          ]);
+          within = omega (arith, cursors.left.within);
+        };
+        first_fault = is_fault;
+      }
 
 -- the one entry is the first that is not sound, if it is not
 pub fault_of_one : {S : Type 0} (e : Entry S)
@@ -196,19 +189,14 @@ fault_of_one e = elim (cases_Bool (is_sound e.finding)) [ inl sound ↦ rw sound
 -- one open entry
 pub cursors_one : {S : Type 0} (e : Entry S) → e.mark ≡ Open → (fault : Option ℕ)
     → fault ≡ position (λ (d : Entry S). not (is_sound d.finding)) (e ∷ []) → AreCursors (e ∷ []) 0 0 fault
-cursors_one {S} e is_open_one fault is_fault =
-    record {
-      below = (λ i d at less. absurd (omega arith));
-      above = (λ i d at le. rw (← only i d at) is_open_one);
-      within = omega arith;
-      left = record {
-        expanded = (λ i d at less. absurd (omega arith));
-        stops = (λ d at q. cc (only 0 d at));
-        within = omega arith;
-      };
-      first_fault = is_fault;
-    }
-  where
-    only : (i : ℕ) (d : Entry S) → At (e ∷ []) i d → e ≡ d
-    only zero d h = cc
-    only (suc i) d h = absurd (let q : None ≡ Some d = h in cc)
+cursors_one e is_open_one fault is_fault = record {
+  below = (λ i d at less. absurd (omega arith));
+  above = (λ i d at le. rw (← (get-single e i d at).1) is_open_one);
+  within = omega arith;
+  left = record {
+    expanded = (λ i d at less. absurd (omega arith));
+    stops = (λ d at q. cc ((get-single e 0 d at).1));
+    within = omega arith;
+  };
+  first_fault = is_fault;
+}

@@ -1,11 +1,9 @@
 -- What is taken out of a list, one element after the other, is the list.
-use Rattle.std.proofs.Common.{◌≡◌, ℕ, ◌-◌, List, [], ◌∷◌, ◌++◌, Option, None, length, ap}
-use Rattle.std.proofs.Common.{append-nil, arith, sym, ◌∙◌}
+use Rattle.std.proofs.Common.{◌≡◌, ℕ, ◌-◌, List, [], ◌∷◌, ◌++◌, Option, None, length, ap, append-nil, arith, sym, ◌∙◌}
+use Rattle.std.proofs.Common.{slice_range, take_all}
 use Rattle.std.specs.Iterator.{Yields}
-use Rattle.std.specs.List.{slice_range}
 use Rattle.std.specs.Vec.Iter.{drain_items, drain_steps}
 use Rattle.std.specs.declared.vec.Drain.{Drain}
-use Rattle.std.proofs.lemmas.List.{take_all}
 
 module _ {A Z : Type 0} where
   front : (xs : List A) (s t : Drain A Z) → Yields (drain_steps {X = A} {Z = Z}) s xs t

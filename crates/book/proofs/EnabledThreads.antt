@@ -1,6 +1,6 @@
 -- A thread that is enabled is among the enabled ones.
-use Rattle.std.proofs.Common.{◌≡◌, ℕ, zero, suc, ◌+◌, Bool, true, Some, is_some, List, [], ◌∷◌, filter, refl}
-use Rattle.std.proofs.Common.{ap, ◌∙◌, arith, slice_get}
+use Rattle.std.proofs.Common.{◌≡◌, ℕ, zero, suc, ◌+◌, Bool, true, Some, is_some, List, [], ◌∷◌, filter, refl, ap, ◌∙◌}
+use Rattle.std.proofs.Common.{arith, slice_get}
 use Rattle.std.specs.List.{range_with_len}
 use Rattle.std.proofs.lemmas.Bool.{cond_both}
 use Rattle.std.proofs.lemmas.List.FromFn.{get_or-range_with_len, length-range_with_len}

@@ -1,13 +1,12 @@
 -- An entry by its number, in lists of entries that are made of others.
-use Rattle.std.proofs.Common.{rules, ◌≡◌, ◌≢◌, ℕ, zero, suc, ◌+◌, ◌⊎◌, inl, inr, List, [], ◌∷◌, ◌++◌, length}
-use Rattle.std.proofs.Common.{refl, sym, ap}
-use Rattle.std.proofs.Common.{◌∙◌, ◌<◌, Some, slice_get, arith, count_by, cond, subst}
+use Rattle.std.proofs.Common.{rules, ◌≡◌, ◌≢◌, ℕ, zero, suc, ◌+◌, ◌≤◌, ◌⊎◌, inl, inr, List, [], ◌∷◌, ◌++◌, length, refl}
+use Rattle.std.proofs.Common.{sym, ap, ◌∙◌, ◌<◌, Some, slice_get, arith, count_by, cond, map, subst, sum_by}
+use Rattle.std.specs.List.{range_with_len}
 use Rattle.std.proofs.lemmas.List.Sums.{sum_by-cons}
 use Rattle.std.proofs.lemmas.Option.{same_Some, slice_get_within}
 use Rattle.tree_machine.proofs.Lists.{get_at, get-append_cases}
-use Rattle.book.specs.declared.entry.Mark.{Mark}
-use Rattle.book.specs.declared.entry.Mark.TheVariants.{Open, Taken, Expanded}
-use Rattle.book.specs.Entries.{Entry, At, is_open, is_taken, is_expanded, with_mark}
+use Rattle.book.specs.Entries.{Mark, Open, Taken, Expanded, Entry, Successor, At, is_open, is_taken, is_expanded}
+use Rattle.book.specs.Entries.{opened, with_mark, with_marks}
 
 -- what stands in two lists in a row at a number of the first stands in the first
 pub get-front : {X : Type 0} (xs ys : List X) (i : ℕ) (x : X) → slice_get (xs ++ ys) i ≡ Some x → i < length xs
@@ -31,6 +30,12 @@ module _ {S : Type 0} where
   length-with_mark (e ∷ es) zero k = refl
   length-with_mark (e ∷ es) (suc i) k = ap suc (length-with_mark es i k)
 
+  pub with_mark-append : (es fs : List (Entry S)) (i : ℕ) (k : Mark) → i < length es
+      → with_mark (es ++ fs) i k ≡ with_mark es i k ++ fs
+  with_mark-append [] fs i k h = absurd (omega arith)
+  with_mark-append (e ∷ es) fs zero k h = refl
+  with_mark-append (e ∷ es) fs (suc i) k h = ap (λ xs. e ∷ xs) (with_mark-append es fs i k (omega arith))
+
   -- what is so of entry i with the mark, and of each other entry, is so of each after the mark of i is changed
   pub each-with_mark : (P : ℕ → Entry S → Type 0) (es : List (Entry S)) (i : ℕ) (k : Mark)
       → ((e : Entry S) → At es i e → P i (record e { mark = k }))
@@ -45,6 +50,20 @@ module _ {S : Type 0} where
       each-with_mark (λ n. P (suc n)) es i k marked
       (λ n d there apart. other (suc n) d there (λ q. apart (omega arith)))
       j f at
+
+  -- the same of entries in a row from a to below z
+  pub each-range : (P : ℕ → Entry S → Type 0) (n a z : ℕ) → a + n ≡ z → (es : List (Entry S)) (k : Mark)
+      → ((j : ℕ) (e : Entry S) → At es j e → a ≤ j → j < z → P j (record e { mark = k }))
+      → ((j : ℕ) (e : Entry S) → At es j e → (a ≤ j → j < z → ⊥) → P j e)
+      → (j : ℕ) (f : Entry S) → At (with_marks es (range_with_len a n) k) j f → P j f
+  each-range P zero a z is es k marked other = λ j f at. other j f at (λ p q. omega arith)
+  each-range P (suc n) a z is es k marked other =
+      each-range P n (a + 1) z (omega arith) (with_mark es a k) k
+      (each-with_mark (λ j f. a + 1 ≤ j → j < z → P j (record f { mark = k })) es a k (λ e at p q. absurd (omega arith))
+      (λ j e at apart p q. marked j e at (omega arith) q))
+      (each-with_mark (λ j f. (a + 1 ≤ j → j < z → ⊥) → P j f) es a k
+      (λ e at out. marked a e at (omega arith) (omega arith))
+      (λ j e at apart out. other j e at (λ p q. out (omega arith) q)))
 
   -- so an entry afterwards is an entry from before, but for the mark if it is i
   pub at-with_mark : (es : List (Entry S)) (i : ℕ) (k : Mark) (j : ℕ) (f : Entry S) → At (with_mark es i k) j f
@@ -62,6 +81,21 @@ module _ {S : Type 0} where
       let so =
       subst (λ d. SameButMark d f.0 × IsMarked i k j d f.0) (same_Some o.0 e (sym o.1 ∙ at)) (o.2, o.3) in
       (f.0, f.1, so.0, so.1)
+
+module _ {S : Type 0} (weight : Entry S → ℕ) where
+  -- an entry that weighed nothing counts as what it weighs with its new mark
+  pub sum-with_mark : (es : List (Entry S)) (i : ℕ) (k : Mark) (e : Entry S) → At es i e → weight e ≡ 0
+      → sum_by weight (with_mark es i k) ≡ sum_by weight es + weight (record e { mark = k })
+  sum-with_mark [] i k e at none = cc
+  sum-with_mark (d ∷ es) zero k e at none =
+      let same : d ≡ e = cc in simp sum_by-cons (rw (same, none) (omega arith))
+  sum-with_mark (d ∷ es) (suc i) k e at none = simp sum_by-cons (omega (arith, sum-with_mark es i k e at none))
+
+  -- open entries that weigh nothing count for nothing
+  pub sum-opened : (i : ℕ) → ((u : Successor S) → weight (opened i u) ≡ 0) → (us : List (Successor S))
+      → sum_by weight (map (opened i) us) ≡ 0
+  sum-opened i none [] = refl
+  sum-opened i none (u ∷ us) = simp sum_by-cons (omega (arith, none u, sum-opened i none us))
 
 -- each entry is open, taken or expanded
 pub count_marks : {S : Type 0} (es : List (Entry S))

@@ -1,22 +1,18 @@
 -- How a book grows by one expansion.
-use Rattle.std.proofs.Common.{◌≡◌, ℕ, zero, suc, ◌+◌, ◌<◌, ◌≤◌, inl, inr, Bool, false, not, cond, Option, Some}
-use Rattle.std.proofs.Common.{None, List, [], ◌∷◌, length, map, refl, ap, ◌∙◌, arith, slice_get, position}
-use Rattle.std.proofs.Common.{count_by}
-use Rattle.std.proofs.lemmas.List.Sums.{sum_by-cons, sum_by-append}
+use Rattle.std.proofs.Common.{◌≡◌, ℕ, ◌+◌, ◌<◌, ◌≤◌, inl, inr, Bool, false, not, cond, Option, Some, None, List, length}
+use Rattle.std.proofs.Common.{refl, ap, ◌∙◌, arith, slice_get, position, count_by}
+use Rattle.std.proofs.lemmas.List.Sums.{sum_by-append}
 use Rattle.std.proofs.lemmas.Option.{slice_get_within}
-use Rattle.replay.specs.declared.finding.Finding.{Finding}
-use Rattle.book.specs.declared.entry.Mark.{Mark}
-use Rattle.book.specs.declared.entry.Mark.TheVariants.{Taken, Expanded}
-use Rattle.replay.specs.Schedule.{AreOneBy, StepMachine, IsMachine, Merges}
-use Rattle.book.specs.Entries.{Entry, Successor, Takes, At, IsNext, with_mark, opened, states}
-use Rattle.book.specs.Unknown.{with_successors, unknown}
+use Rattle.book.specs.Entries.{Finding, Mark, Taken, Expanded, Entry, Successor, Takes, At, IsNext, with_mark, states}
 use Rattle.book.specs.Entries.{is_expanded, is_open}
+use Rattle.replay.specs.Schedule.{AreOneBy, StepMachine, IsMachine, Merges}
+use Rattle.book.specs.Unknown.{with_successors, unknown}
 use Rattle.book.specs.Law.{IsLawful, IsExpansion}
 use Rattle.book.specs.Layers.{IsLeftTo, NoneTaken, GrowsFrom, IsThrough}
 use Rattle.book.proofs.Closed.{worked_out}
 use Rattle.book.proofs.Coverage.{along_origins}
 use Rattle.book.proofs.Cursors.{first_is}
-use Rattle.book.proofs.EntryLemmas.{each-with_mark, with_mark-at}
+use Rattle.book.proofs.EntryLemmas.{each-with_mark, sum-opened, sum-with_mark, with_mark-at}
 use Rattle.book.proofs.Next.{first_passes, next_from}
 use Rattle.book.proofs.Kept.{entered_grows, entered_rests}
 use Rattle.book.proofs.Marks.{expanded_from, not_expanded_from, open_between, open_fails, open_passes}
@@ -45,7 +41,8 @@ module _ {S : Type 0} (m : StepMachine S) (same : S → S → Bool) (right : S �
           let first_open =
           first_is (λ (r : Entry S). is_open r.mark) es a f.0 f.1 (open_passes f.0.mark opens)
           (λ j g at less. open_fails g.mark (λ o. cc (expanded_from g.mark (f.3 j g less at)))) in
-          no_next a f.0 (next_from m same right es law a a h first_open f.0 f.0 f.1 f.1 refl)
+          let next = next_from m same right es law a a h first_open (f.0, f.1, refl) (f.0, f.1, refl) refl in
+          no_next a next.0 next.1
 
 -- ---- one is taken, and then its steps are entered
 module _ {S : Type 0} (m : StepMachine S) where
@@ -74,23 +71,17 @@ module _ {S : Type 0} (m : StepMachine S) where
   pub taken_count : (es : List (Entry S)) (i : ℕ) (k : Mark) (e : Entry S) → At es i e → is_expanded e.mark ≡ false
       → count_by (λ (r : Entry S). is_expanded r.mark) (with_mark es i k)
       ≡ count_by (λ (r : Entry S). is_expanded r.mark) es + cond (is_expanded k) 1 0
-  taken_count [] i k e at closed = absurd (cc)
-  taken_count (d ∷ es) zero k e at closed =
-      let same : d ≡ e = cc in simp sum_by-cons (rw (same, closed) (omega arith))
-  taken_count (d ∷ es) (suc i) k e at closed = simp sum_by-cons (omega (arith, taken_count es i k e at closed))
-
-  opened_count : (i : ℕ) (us : List (Successor S))
-      → count_by (λ (r : Entry S). is_expanded r.mark) (map (opened i) us) ≡ 0
-  opened_count i [] = refl
-  opened_count i (u ∷ us) = simp sum_by-cons (omega (arith, opened_count i us))
+  taken_count es i k e at closed =
+      sum-with_mark (λ (r : Entry S). cond (is_expanded r.mark) 1 0) es i k e at (rw closed refl)
 
   entered_count : (same : S → S → Bool) (es : List (Entry S)) (i : ℕ) (e : Entry S) (xs : List (Successor S))
       → At es i e → e.mark ≡ Taken
       → count_by (λ (r : Entry S). is_expanded r.mark) (with_successors same es i xs)
       ≡ count_by (λ (r : Entry S). is_expanded r.mark) es + 1
   entered_count same es i e xs at taken =
-      simp sum_by-append
-      (omega (arith, taken_count es i Expanded e at (rw taken refl), opened_count i (unknown same (states es) xs)))
+      let opens =
+      sum-opened (λ (r : Entry S). cond (is_expanded r.mark) 1 0) i (λ u. refl) (unknown same (states es) xs) in
+      simp sum_by-append (omega (arith, taken_count es i Expanded e at (rw taken refl), opens))
 
   -- an entry is taken, and then the entries grow
   taken_joined : (a c : List (Entry S)) (i : ℕ) (e : Entry S) → IsNext m.steps a i e

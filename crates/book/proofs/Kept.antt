@@ -1,14 +1,10 @@
 -- A book stays lawful.
 use Rattle.std.proofs.Common.{◌≡◌, ◌≢◌, ℕ, ◌+◌, ◌<◌, ◌≤◌, inl, inr, Bool, true, false, Some, List, [], ◌++◌, length}
 use Rattle.std.proofs.Common.{map, refl, sym, ◌∙◌, append-nil, arith, slice_get}
-use Rattle.book.specs.declared.entry.Mark.{Mark}
-use Rattle.std.proofs.lemmas.Bool.{true≢false}
+use Rattle.book.specs.Entries.{Mark, Finding, Taken, Expanded, Entry, Successor, At, IsNext, with_mark, opened, states}
 use Rattle.std.proofs.lemmas.Option.{slice_get_within}
 use Rattle.tree_machine.proofs.Lists.{get-append_cases, get-append_left, get-append_right, get-map, map-get}
-use Rattle.replay.specs.declared.finding.Finding.{Finding}
-use Rattle.book.specs.declared.entry.Mark.TheVariants.{Taken, Expanded}
 use Rattle.replay.specs.Schedule.{AreOneBy, StepMachine, IsMachine, Merges}
-use Rattle.book.specs.Entries.{Entry, Successor, At, IsNext, with_mark, opened, states}
 use Rattle.book.specs.Unknown.{with_successors, unknown}
 use Rattle.book.specs.Layers.{GrowsFrom, NoneTaken}
 use Rattle.book.specs.Law.{StandsFor, IsStep, IsLawful, IsExpansion}
@@ -69,9 +65,9 @@ module _ {S : Type 0} (m : StepMachine S) (same : S → S → Bool) (right : S �
     was_left : (j : ℕ) (d f : Entry S) → At es j d → IsMarked i k j d f → f.mark ≢ Expanded → d.mark ≢ Expanded
     was_left j d f at which h x = h (still_expanded j d f at which x)
 
-    origin_of : (j : ℕ) (f : Entry S) → Where j f → 0 < j → IsStep m all j f
-    origin_of j f (Old d at but which) pos =
-        let old = law.origins j d at pos in
+    origin_of : {j : ℕ} {f : Entry S} → Where j f → 0 < j → IsStep m all j f
+    origin_of (Old d at but which) pos =
+        let old = law.origins _ d at pos in
         let p = kept_at old.origin.parent old.parent old.entered in
         record {
           origin = old.origin;
@@ -82,7 +78,7 @@ module _ {S : Type 0} (m : StepMachine S) (same : S → S → Bool) (right : S �
           expanded = still_expanded old.origin.parent old.parent p.0 old.entered p.3 old.expanded;
           step = rw (p.2.state, but.state) old.step;
         }
-    origin_of j f (New n y is at opens) pos =
+    origin_of (New n y is at opens) pos =
         let p = kept_at i e put.entry in
         record {
           origin = record { parent = i; thread = y.thread };
@@ -94,56 +90,59 @@ module _ {S : Type 0} (m : StepMachine S) (same : S → S → Bool) (right : S �
           step = rw (p.2.state, opens) (put.new n y at).1.step;
         }
 
-    apart : (j l : ℕ) (f g : Entry S) → Where j f → Where l g → same f.state g.state ≡ true → j ≡ l
-    apart j l f g (Old d at but which) (Old b there but' which') h =
-        law.distinct j l d b at there (rw (← but.state, ← but'.state) h)
-    apart j l f g (Old d at but which) (New n y is there opens) h =
-        absurd (true≢false (sym (rw (but.state, opens) at h) ∙ (put.new n y there).1.unknown j d at))
-    apart j l f g (New n y is at opens) (Old b there but which) h =
-        let turned = merges.turned f.state g.state h in
-        absurd (true≢false (sym (rw (but.state, opens) at turned) ∙ (put.new n y at).1.unknown l b there))
-    apart j l f g (New n y is at opens) (New o z is' there opens') h =
+    found : {j : ℕ} {f : Entry S} → Where j f → right f.state f.finding × m.Fits f.state
+    found (Old d at but which) = rw (but.state, but.finding) (law.findings _ d at, law.fit _ d at)
+    found (New n y is at opens) = rw opens ((put.new n y at).1.finding, (put.new n y at).1.fits)
+
+    apart : {j l : ℕ} {f g : Entry S} → Where j f → Where l g → same f.state g.state ≡ true → j ≡ l
+    apart (Old d at but which) (Old b there but' which') h =
+        law.distinct _ _ d b at there (rw (← but.state, ← but'.state) h)
+    apart (Old d at but which) (New n y is there opens) h =
+        cc (but.state, opens, h, (put.new n y there).1.unknown _ d at)
+    apart {j} {l} {f} {g} (New n y is at opens) (Old b there but which) h =
+        cc (but.state, opens, merges.turned f.state g.state h, (put.new n y at).1.unknown l b there)
+    apart (New n y is at opens) (New o z is' there opens') h =
         let same_place = put.apart n o y z at there (rw (opens, opens') at h) in omega arith
 
     stood : (k ≡ Expanded → (t : ℕ) (s : S) → m.step e.state t ≡ Some s → StandsFor m (AreOneBy same) all s)
-        → (j t : ℕ) (f : Entry S) (s : S) → Where j f → f.mark ≡ Expanded → m.step f.state t ≡ Some s
+        → {j : ℕ} {f : Entry S} (t : ℕ) (s : S) → Where j f → f.mark ≡ Expanded → m.step f.state t ≡ Some s
         → StandsFor m (AreOneBy same) all s
-    stood steps j t f s (Old d at but (inl l)) x leads =
+    stood steps t s (Old d at but (inl l)) x leads =
         let q : d ≡ e = cc in steps (sym l.1 ∙ x) t s (rw (← q, ← but.state) leads)
-    stood steps j t f s (Old d at but (inr r)) x leads =
-        stands_still s (law.stands j t d s at (rw (← r.1) x) (rw (← but.state) leads))
-    stood steps j t f s (New n y is at opens) x leads = absurd (cc)
+    stood steps t s (Old d at but (inr r)) x leads =
+        stands_still s (law.stands _ t d s at (rw (← r.1) x) (rw (← but.state) leads))
+    stood steps t s (New n y is at opens) x leads = absurd (cc)
 
-    in_order : (j l : ℕ) (f g : Entry S) → Where j f → Where l g → j ≤ l → m.steps f.state ≤ m.steps g.state
-    in_order j l f g (Old d at but which) (Old b there but' which') le =
-        rw (but.state, but'.state) (law.ordered j l d b at there le)
-    in_order j l f g (Old d at but which) (New n y is there opens) le =
-        rw (but.state, opens, new_steps n y there) (law.near i j e d put.entry put.left at)
-    in_order j l f g (New n y is at opens) (Old b there but which) le =
+    in_order : {j l : ℕ} {f g : Entry S} → Where j f → Where l g → j ≤ l → m.steps f.state ≤ m.steps g.state
+    in_order (Old d at but which) (Old b there but' which') le =
+        rw (but.state, but'.state) (law.ordered _ _ d b at there le)
+    in_order (Old d at but which) (New n y is there opens) le =
+        rw (but.state, opens, new_steps n y there) (law.near i _ e d put.entry put.left at)
+    in_order {j} {l} (New n y is at opens) (Old b there but which) le =
         absurd (omega (arith, slice_get_within es l b there))
-    in_order j l f g (New n y is at opens) (New o z is' there opens') le =
+    in_order (New n y is at opens) (New o z is' there opens') le =
         rw (opens, opens', new_steps n y at, new_steps o z there) (omega arith)
 
-    fewest_taken : (j l : ℕ) (f g : Entry S) → Where j f → f.mark ≡ Taken → Where l g → g.mark ≢ Expanded
+    fewest_taken : {j l : ℕ} {f g : Entry S} → Where j f → f.mark ≡ Taken → Where l g → g.mark ≢ Expanded
         → m.steps f.state ≤ m.steps g.state
-    fewest_taken j l f g (Old d at but (inl here)) x (Old b there but' which) y =
-        let q : e ≡ d = cc in rw (but.state, but'.state, ← q) (put.fewest l b there (was_left l b g there which y))
-    fewest_taken j l f g (Old d at but (inr r)) x (Old b there but' which) y =
-        rw (but.state, but'.state) (law.least j l d b at (cc) there (was_left l b g there which y))
-    fewest_taken j l f g (Old d at but which) x (New n z is there opens) y =
-        rw (but.state, opens, new_steps n z there) (law.near i j e d put.entry put.left at)
-    fewest_taken j l f g (New n z is at opens) x there y = absurd (cc)
+    fewest_taken {j} {l} {f} {g} (Old d at but (inl here)) x (Old b there but' which') y =
+        let q : e ≡ d = cc in rw (but.state, but'.state, ← q) (put.fewest l b there (was_left l b g there which' y))
+    fewest_taken {j} {l} {f} {g} (Old d at but (inr r)) x (Old b there but' which') y =
+        rw (but.state, but'.state) (law.least j l d b at (cc) there (was_left l b g there which' y))
+    fewest_taken (Old d at but which) x (New n z is there opens) y =
+        rw (but.state, opens, new_steps n z there) (law.near i _ e d put.entry put.left at)
+    fewest_taken (New n z is at opens) x there y = absurd (cc)
 
-    close : (j l : ℕ) (f g : Entry S) → Where j f → f.mark ≢ Expanded → Where l g
+    close : {j l : ℕ} {f g : Entry S} → Where j f → f.mark ≢ Expanded → Where l g
         → m.steps g.state ≤ m.steps f.state + 1
-    close j l f g (Old d at but which) x (Old b there but' which') =
+    close {j} {l} {f} (Old d at but which) x (Old b there but' which') =
         rw (but'.state, but.state) (law.near j l d b at (was_left j d f at which x) there)
-    close j l f g (Old d at but which) x (New n y is there opens) =
+    close {j} {l} {f} (Old d at but which) x (New n y is there opens) =
         let less = put.fewest j d at (was_left j d f at which x) in
         rw (but.state, opens, new_steps n y there) (omega arith)
-    close j l f g (New n y is at opens) x (Old b there but which) =
-        let near = law.near i l e b put.entry put.left there in rw (but.state, opens, new_steps n y at) (omega arith)
-    close j l f g (New n y is at opens) x (New o z is' there opens') =
+    close (New n y is at opens) x (Old b there but which) =
+        let near = law.near i _ e b put.entry put.left there in rw (but.state, opens, new_steps n y at) (omega arith)
+    close (New n y is at opens) x (New o z is' there opens') =
         rw (opens, opens', new_steps n y at, new_steps o z there) (omega arith)
 
     keeps : (k ≡ Expanded → (t : ℕ) (s : S) → m.step e.state t ≡ Some s → StandsFor m (AreOneBy same) all s)
@@ -151,26 +150,19 @@ module _ {S : Type 0} (m : StepMachine S) (same : S → S → Bool) (right : S �
     keeps steps = record {
       start = (let w = kept_at 0 law.start.0 law.start.1 in
           (w.0, w.1, w.2.state ∙ law.start.2, w.2.origin ∙ law.start.3));
-      origins = (λ j f at pos. origin_of j f (where_is j f at) pos);
-      distinct = (λ j l f g at_j at_l h. apart j l f g (where_is j f at_j) (where_is l g at_l) h);
-      findings = (λ j f at. elim (where_is j f at) [
-        | Old d there but which ↦ rw (but.state, but.finding) (law.findings j d there)
-        | New n y is there opens ↦ rw opens (put.new n y there).1.finding
-      ]);
-      fit = (λ j f at. elim (where_is j f at) [
-        | Old d there but which ↦ rw but.state (law.fit j d there)
-        | New n y is there opens ↦ rw opens (put.new n y there).1.fits
-      ]);
-      stands = (λ j t f s at x leads. stood steps j t f s (where_is j f at) x leads);
-      ordered = (λ j l f g at_j at_l le. in_order j l f g (where_is j f at_j) (where_is l g at_l) le);
-      least = (λ j l f g at_j x at_l y. fewest_taken j l f g (where_is j f at_j) x (where_is l g at_l) y);
-      near = (λ j l f g at_j x at_l. close j l f g (where_is j f at_j) x (where_is l g at_l));
+      origins = (λ j f at. origin_of (where_is j f at));
+      distinct = (λ j l f g at_j at_l. apart (where_is j f at_j) (where_is l g at_l));
+      findings = (λ j f at. (found (where_is j f at)).0);
+      fit = (λ j f at. (found (where_is j f at)).1);
+      stands = (λ j t f s at. stood steps t s (where_is j f at));
+      ordered = (λ j l f g at_j at_l. in_order (where_is j f at_j) (where_is l g at_l));
+      least = (λ j l f g at_j x at_l. fewest_taken (where_is j f at_j) x (where_is l g at_l));
+      near = (λ j l f g at_j x at_l. close (where_is j f at_j) x (where_is l g at_l));
     }
 
     grows : GrowsFrom m.steps es all
     grows j f at = elim (where_is j f at) [
-      | Old d there but which ↦
-          inl (d, there, but.state, but.finding, still_expanded j d f there which)
+      | Old d there but which ↦ inl (d, there, but.state, but.finding, still_expanded j d f there which)
       | New n y is there opens ↦ inr (i, e, put.entry, put.left, rw opens (new_steps n y there))
     ]
 

@@ -1,68 +1,33 @@
 -- A book stays lawful, its totals included.
-use Rattle.std.proofs.Common.{◌≡◌, ℕ, zero, suc, ◌+◌, ◌*◌, ◌^◌, ◌<◌, ◌≤◌, Bool, false, cond, None, is_some, List, []}
-use Rattle.std.proofs.Common.{◌∷◌, length, map, sum_by, refl, sym, ap, ◌∙◌, arith, length-append}
+use Rattle.std.proofs.Common.{◌≡◌, ℕ, ◌+◌, ◌^◌, ◌<◌, ◌≤◌, Bool, None, is_some, List, [], ◌∷◌, length, map, get_or, refl}
+use Rattle.std.proofs.Common.{sym, ap, ◌∙◌, arith, length-append}
 use Rattle.std.specs.List.{range_with_len}
 use Rattle.std.proofs.Math.ListN.{length-map}
 use Rattle.std.proofs.lemmas.Bool.{cond_both}
 use Rattle.std.proofs.lemmas.List.FromFn.{length-range_with_len}
-use Rattle.std.proofs.lemmas.List.Sums.{sum_by-cons, sum_by-append, length-filter, count_by-le-length}
-use Rattle.std.proofs.lemmas.Option.{slice_get_within}
+use Rattle.std.proofs.lemmas.List.Sums.{sum_by-append, sum_by-le, length-filter, count_by-le-length}
 use Rattle.sched_program.specs.Program.{Program}
-use Rattle.replay.specs.declared.finding.Finding.{Finding}
+use Rattle.book.specs.Entries.{Finding, Open, Taken, Expanded, Entry, Successor, Contents, At, IsNext, contents_of}
+use Rattle.book.specs.Entries.{is_expanded, opened, states, with_mark}
 use Rattle.options.specs.declared.options.Merge.{Merge}
-use Rattle.book.specs.declared.entry.Mark.{Mark}
-use Rattle.book.specs.declared.entry.Mark.TheVariants.{Open, Taken, Expanded}
 use Rattle.replay.specs.Schedule.{AreOneBy, StepMachine, IsMachine, Merges, enabled_threads}
-use Rattle.book.specs.Entries.{Entry, Successor, Contents, At, IsNext, contents_of, is_expanded, opened, states}
-use Rattle.book.specs.Entries.{with_mark}
 use Rattle.book.specs.Unknown.{with_successors, unknown}
 use Rattle.book.specs.Law.{IsExpansion, IsLawfulBook, steps_entered}
-use Rattle.book.proofs.EntryLemmas.{length-with_mark}
+use Rattle.book.proofs.EntryLemmas.{length-with_mark, sum-opened, sum-with_mark}
 use Rattle.book.proofs.Kept.{taken_keeps, entered_keeps}
 use Rattle.book.proofs.Lists.{get-single}
 
 module _ {S : Type 0} (m : StepMachine S) where
-  -- an entry counts the steps of its state once it is expanded
-  sum-with_mark : (es : List (Entry S)) (i : ℕ) (k : Mark) (e : Entry S) → At es i e → is_expanded e.mark ≡ false
-      → sum_by (steps_entered m) (with_mark es i k)
-      ≡ sum_by (steps_entered m) es + cond (is_expanded k) (length (enabled_threads m e.state)) 0
-  sum-with_mark [] i k e at closed = cc
-  sum-with_mark (d ∷ es) zero k e at closed =
-      let same : d ≡ e = cc in
-      rw (
-        same,
-        sum_by-cons (steps_entered m) (record e { mark = k }) es,
-        sum_by-cons (steps_entered m) e es,
-        closed,
-      )
-      (omega arith)
-  sum-with_mark (d ∷ es) (suc i) k e at closed =
-      rw (
-        sum_by-cons (steps_entered m) d (with_mark es i k),
-        sum_by-cons (steps_entered m) d es,
-        sum-with_mark es i k e at closed,
-      )
-      (omega arith)
-
-  sum-opened : (i : ℕ) (us : List (Successor S)) → sum_by (steps_entered m) (map (opened i) us) ≡ 0
-  sum-opened i [] = refl
-  sum-opened i (u ∷ us) =
-      rw (sum_by-cons (steps_entered m) (opened i u) (map (opened i) us), sum-opened i us) (omega arith)
-
   steps_bounded : IsMachine m → (s : S) → length (enabled_threads m s) < 256
   steps_bounded machine s =
-      let a = length-filter (λ t. is_some (m.step s t)) (range_with_len 0 m.threads) in
-      let b = count_by-le-length (λ t. is_some (m.step s t)) (range_with_len 0 m.threads) in
-      let l = length-range_with_len 0 m.threads in
-      omega (arith, machine.threads_bounded)
+      let enabled = count_by-le-length (λ t. is_some (m.step s t)) (range_with_len 0 m.threads) in
+      rw length-filter (omega (arith, enabled, length-range_with_len 0 m.threads, machine.threads_bounded))
 
-  steps_bound : IsMachine m → (es : List (Entry S)) → sum_by (steps_entered m) es ≤ 256 * length es
-  steps_bound machine [] = omega arith
-  steps_bound machine (e ∷ es) =
-      let own : steps_entered m e ≤ 256 =
+  -- an entry counts the steps of its state once it is expanded
+  entered_bounded : IsMachine m → (e : Entry S) → steps_entered m e ≤ 256
+  entered_bounded machine e =
       cond_both (is_expanded e.mark) (length (enabled_threads m e.state)) 0 (λ n. n ≤ 256)
-      (λ _. omega (arith, steps_bounded machine e.state)) (λ _. omega arith) in
-      rw (sum_by-cons (steps_entered m) e es) (omega (arith, steps_bound machine es))
+      (λ _. omega (arith, steps_bounded machine e.state)) (λ _. omega arith)
 
 module _ {X S : Type 0} (m : StepMachine S) (same : S → S → Bool) (right : S → Finding → Type 0) (machine : IsMachine m)
     (merges : Merges m same) where
@@ -73,18 +38,19 @@ module _ {X S : Type 0} (m : StepMachine S) (same : S → S → Bool) (right : S
       (contents_of x p k n (record { state = s; finding = f; origin = None; mark = Open } ∷ []) 0)
   opened_book x p k n s f is_start is_right is_fit some bounded =
       let e : Entry S = record { state = s; finding = f; origin = None; mark = Open } in
-      let first : (i : ℕ) (d : Entry S) → At (e ∷ []) i d → i < 1 = λ i d at. slice_get_within (e ∷ []) i d at in
+      let none : (i : ℕ) (d : Entry S) → At (e ∷ []) i d → m.steps d.state ≡ m.steps s =
+      λ i d at. rw (← (get-single e i d at).1) refl in
       record {
         law = record {
           start = (e, refl, is_start, refl);
-          origins = (λ i d at pos. absurd (omega (arith, first i d at)));
-          distinct = (λ i j d g at_i at_j h. omega (arith, first i d at_i, first j g at_j));
-          findings = (λ i d at. rw (← get-single e i d at) is_right);
-          fit = (λ i d at. rw (← get-single e i d at) is_fit);
-          stands = (λ i t d r at done leads. let never = rw (← get-single e i d at) at done in cc);
-          ordered = (λ i j d g at_i at_j le. rw (← get-single e i d at_i, ← get-single e j g at_j) (omega arith));
-          least = (λ i j d g at_i taken at_j h. rw (← get-single e i d at_i, ← get-single e j g at_j) (omega arith));
-          near = (λ i j d g at_i h at_j. rw (← get-single e i d at_i, ← get-single e j g at_j) (omega arith));
+          origins = (λ i d at pos. absurd (omega (arith, (get-single e i d at).0)));
+          distinct = (λ i j d g at_i at_j h. omega (arith, (get-single e i d at_i).0, (get-single e j g at_j).0));
+          findings = (λ i d at. rw (← (get-single e i d at).1) is_right);
+          fit = (λ i d at. rw (← (get-single e i d at).1) is_fit);
+          stands = (λ i t d r at done leads. let never = rw (← (get-single e i d at).1) at done in cc);
+          ordered = (λ i j d g at_i at_j le. omega (arith, none i d at_i, none j g at_j));
+          least = (λ i j d g at_i taken at_j h. omega (arith, none i d at_i, none j g at_j));
+          near = (λ i j d g at_i h at_j. omega (arith, none i d at_i, none j g at_j));
         };
         within = some;
         limit = bounded;
@@ -102,8 +68,11 @@ module _ {X S : Type 0} (m : StepMachine S) (same : S → S → Bool) (right : S
         within = rw same_length book.within;
         limit = book.limit;
         counted =
-            (let steps = sum-with_mark m b.entries i Taken e next.entry (rw next.is_open refl) in
-            omega (arith, book.counted));
+            omega (
+              arith,
+              book.counted,
+              sum-with_mark (steps_entered m) b.entries i Taken e next.entry (rw next.is_open refl),
+            );
       }
 
   module _ (b : Contents X S) (book : IsLawfulBook m (AreOneBy same) right b) (i : ℕ) (e : Entry S)
@@ -128,8 +97,8 @@ module _ {X S : Type 0} (m : StepMachine S) (same : S → S → Bool) (right : S
           limit = book.limit;
           counted = (
               let p = sum_by-append (steps_entered m) (with_mark b.entries i Expanded) (map (opened i) us) in
-              let z = sum-opened m i us in
-              let q = sum-with_mark m b.entries i Expanded e at_i (rw is_taken refl) in
+              let z = sum-opened (steps_entered m) i (λ u. refl) us in
+              let q = sum-with_mark (steps_entered m) b.entries i Expanded e at_i (rw is_taken refl) in
               omega (arith, book.counted, all_steps));
         }
 
@@ -142,6 +111,6 @@ module _ {X S : Type 0} (m : StepMachine S) (same : S → S → Bool) (right : S
           book.within,
           book.limit,
           all_steps,
-          steps_bound m machine b.entries,
+          sum_by-le (steps_entered m) 256 b.entries (λ k d less. entered_bounded m machine (get_or b.entries k d)),
           steps_bounded m machine e.state,
         )

@@ -1,10 +1,6 @@
 -- What was found, or another value where nothing was.
-use Rattle.std.proofs.Common.{◌≡◌, Option, Some, None, IsSome, refl, sym, true≢false}
-use Rattle.std.specs.Prelude.{IfSome, IfNone, unwrap_or}
-
-pub some_value : {X : Type 0} (o : Option X) → IsSome o → (x : X) × (o ≡ Some x)
-some_value None h = absurd (true≢false (sym h))
-some_value (Some x) h = (x, refl)
+use Rattle.std.proofs.Common.{Option, Some, None, IfSome, IfNone, unwrap_or}
+pub use Rattle.lin.proofs.Lists.{IsSome-value as some_value}
 
 pub found_or : {X : Type 0} (P : X → Type 0) (found : Option X) (other : X) → IfSome found P → IfNone found (P other)
     → P (unwrap_or found other)

@@ -6,7 +6,6 @@ pub mod EnabledThreads
 pub mod Kept
 pub mod Next
 pub mod LawfulBooks
-pub mod Entering
 pub mod Growth
 pub mod Counts
 pub mod Closed

@@ -17,13 +17,11 @@ use Rattle.tree_machine.proofs.Forms.{forms_alike}
 use Rattle.replay.specs.Laws.Machines.{is_machine}
 use Rattle.options.specs.declared.options.Merge.{Merge}
 use Rattle.options.specs.declared.options.Merge.TheVariants.{Exact, Names}
-use Rattle.book.specs.declared.entry.Mark.TheVariants.{Open}
-use Rattle.replay.specs.declared.finding.Finding.{Finding}
+use Rattle.book.specs.Entries.{Open, Finding, contents_of}
 use Rattle.replay.specs.Schedule.{StepMachine, AreOneBy, IsMachine, Merges}
 use Rattle.replay.specs.Findings.{machine_of, IsFindingOf}
 use Rattle.book.specs.Labels.{label_by, same_as, same_label}
 use Rattle.book.specs.Books.{CountsAsOne, IsBook}
-use Rattle.book.specs.Entries.{contents_of}
 use Rattle.book.proofs.Agreeing.{Agree}
 use Rattle.book.proofs.LawfulBooks.{opened_book}
 use Rattle.book.proofs.StandingIn.{one_found, one_step, one_turned}

@@ -1,9 +1,7 @@
 -- What the tests of marks say.
-use Rattle.std.proofs.Common.{◌≡◌, ◌≢◌, true, false, not, refl, sym}
-use Rattle.std.proofs.lemmas.Bool.{false_from_ne_true, not-false, not_from_false, true≢false}
-use Rattle.book.specs.declared.entry.Mark.{Mark}
-use Rattle.book.specs.declared.entry.Mark.TheVariants.{Open, Taken, Expanded}
-use Rattle.book.specs.Entries.{is_open, is_taken, is_expanded}
+use Rattle.std.proofs.Common.{◌≡◌, ◌≢◌, true, false, not, refl, sym, true≢false}
+use Rattle.std.proofs.lemmas.Bool.{false_from_ne_true, not-false, not_from_false}
+use Rattle.book.specs.Entries.{Mark, Open, Taken, Expanded, is_open, is_taken, is_expanded}
 
 -- ---- from a test to the mark
 

@@ -1,6 +1,5 @@
 -- Steps of an entry's own state, as they are entered.
-use Rattle.std.proofs.Common.{◌≡◌, ℕ, ◌⊎◌, inl, inr, Option, Result, Ok, Err, IfOk, IfErr, List, map, refl}
-use Rattle.std.proofs.Common.{subst}
+use Rattle.std.proofs.Common.{◌≡◌, ℕ, ◌⊎◌, inl, inr, Option, Result, Ok, Err, IfOk, IfErr, List, map, refl, subst}
 use Rattle.std.proofs.lemmas.List.Folds.{map_fixed}
 use Rattle.std.proofs.lemmas.Option.{get_or_from_slice_get}
 use Rattle.tree_machine.proofs.Lists.{get_at}

@@ -1,26 +1,27 @@
 -- The steps of a taken entry are inserted, and it is marked expanded: what follows for the book.
-use Rattle.std.proofs.Common.{◌≡◌, ℕ, suc, ◌+◌, ◌-◌, ◌^◌, ◌<◌, ◌≤◌, inl, inr, Bool, Some, IsSome}
-use Rattle.std.proofs.Common.{List, [], ◌∷◌, ◌++◌, length, map, refl, sym, ◌∙◌, arith, slice_get}
-use Rattle.std.proofs.Common.{length-append}
-use Rattle.std.specs.List.{All}
+use Rattle.std.proofs.Common.{◌≡◌, ℕ, suc, ◌+◌, ◌-◌, ◌^◌, ◌<◌, ◌≤◌, inl, inr, Bool, Some, IsSome, List, [], ◌∷◌, ◌++◌}
+use Rattle.std.proofs.Common.{length, map, refl, sym, ◌∙◌, arith, slice_get, length-append, All}
 use Rattle.std.proofs.lemmas.Bool.{cond_both}
-use Rattle.std.proofs.lemmas.Option.{get_or_from_slice_get}
+use Rattle.std.proofs.lemmas.Option.{get_or_from_slice_get, slice_get_within}
 use Rattle.std.proofs.Math.ListN.{length-map}
 use Rattle.tree_machine.specs.Rules.{Rules}
 use Rattle.tree_machine.specs.declared.state.State.{State}
-use Rattle.tree_machine.proofs.Lists.{get_at, map-get}
-use Rattle.book.specs.declared.entry.Mark.TheVariants.{Taken, Expanded}
+use Rattle.tree_machine.proofs.Lists.{get-append_left, get_at, map-get}
+use Rattle.book.specs.Entries.{Taken, Expanded, AreNew, At, Contents, Enters, Entry, IsFullFor, IsTaken, Successor}
+use Rattle.book.specs.Entries.{opened, states, with_mark}
 use Rattle.book.specs.Books.{machine_in, right_in, CountsAsOne, IsBook}
 use Rattle.book.specs.ByLabel.{AreStepsOf}
-use Rattle.book.specs.Entries.{AreNew, At, Contents, Enters, Entry, IsFullFor, IsTaken, Successor, opened}
-use Rattle.book.specs.Entries.{states, with_mark}
-use Rattle.book.specs.Unknown.{knows, unknown}
-use Rattle.book.specs.Labels.{same_as, steps_of}
+use Rattle.book.specs.Unknown.{knows, unknown, with_successors}
+use Rattle.book.specs.Labels.{AreKnownBy, Kept, same_as, same_label, steps_of}
+use Rattle.book.specs.Slots.{with_steps}
 use Rattle.replay.specs.Schedule.{AreOneBy, StepMachine}
 use Rattle.book.proofs.Agreeing.{Agree}
-use Rattle.book.proofs.Entering.{entered_within, still_taken, entered_entries, lawful_entered, small_met}
+use Rattle.book.proofs.EntryLemmas.{with_mark-append}
+use Rattle.book.proofs.InBook.{with_entries}
+use Rattle.book.proofs.Labels.{added, new_count}
+use Rattle.book.proofs.LawfulBooks.{entered_book, met_fits}
 use Rattle.book.proofs.Lists.{all_pushed}
-use Rattle.book.proofs.Unknown.{at-states, list_any-false, list_any-true}
+use Rattle.book.proofs.Unknown.{at-states, length-unknown, list_any-false, list_any-true}
 
 -- what is new by a test is new by a relation that agrees with it
 module _ {S : Type 0} (m : StepMachine S) (same : S → S → Bool) (Same : S → S → Type 0)
@@ -68,62 +69,60 @@ module _ {Machine Memory Place Form : Type 0} {rules : Machine → Rules Memory 
       (λ k r there. let d = at-states b.entries k r there in rw (← d.2) (book.law.law.fit k d.0 d.1))
       ys steps.expansion.fit
 
-  pub full_for : b.limit < length b.entries + length news → IsFullFor (CountsAsOne (rules b.machine) b.merge) b ys
-  full_for more = (news, news_are, more)
+  -- a table of its entries, with the rows of the steps whose labels are new, if there is room for them
+  module _ (kept : Kept (State Machine Memory Place Form)) (shown : kept.entries ≡ b.entries)
+      (known : AreKnownBy label_of kept) where
+    pub put_in : (after : Kept (State Machine Memory Place Form))
+        → after ≡ with_steps (machine_in rules b).step e.state i kept xs
+        → (after.entries ≡ b.entries ++ map (opened i) news) × AreKnownBy label_of after
+    put_in after is =
+        rw (← shown) (added label_of (machine_in rules b).step e.state kept known xs steps.labels i after is)
+
+    pub full_for : b.limit < length b.entries + length (unknown same_label kept.labels xs)
+        → IsFullFor (CountsAsOne (rules b.machine) b.merge) b ys
+    full_for more =
+        let count = new_count label_of (machine_in rules b).step e.state kept known xs steps.labels in
+        (news, news_are, omega (arith, rw shown at count))
 
   module _ (taken : e.mark ≡ Taken) (appended : List (Entry (State Machine Memory Place Form)))
       (put : appended ≡ b.entries ++ map (opened i) news)
       (was len n : ℕ) (was_is : was ≡ length b.entries) (len_is : len ≡ length appended) (n_is : n ≡ length xs) where
-    all_steps : n ≡ length ys
-    all_steps = n_is ∙ sym (length-map xs _)
+    -- one entry is added for each unknown step
+    grown : len ≡ was + length news
+    grown = rw (was_is, len_is, put, length-append, length-map) refl
 
-    longer : length appended ≡ length b.entries + length news
-    longer = rw (put, length-append, length-map) refl
-
-    -- the number of entries does not fall: one is added for each unknown step
-    grown : was ≤ len
-    grown = omega (arith, longer)
-
-    entered_count : len - was ≡ length news
-    entered_count = omega (arith, longer)
-
-    entered_bounded : len - was ≤ n
-    entered_bounded =
-        entered_within (machine_in rules b) same (right_in rules b) book.machine book.merges b book.law i e at taken ys
-        steps.expansion appended put (len - was) was len n refl was_is len_is all_steps
-
-    entered_each : (len - was) + (n - (len - was)) ≡ length ys
-    entered_each = omega (arith, entered_bounded, all_steps)
+    few : (length news ≤ n) × (n ≡ length ys)
+    few =
+        let all : n ≡ length ys = n_is ∙ sym (length-map xs _) in
+        (omega (arith, length-unknown same (states b.entries) ys), all)
 
     -- the counts fit their types, and the entry is taken still
     pub counts_fit : (was ≤ len) × (len - was ≤ n) × IsTaken appended i × (b.met + (n - (len - was)) < 2 ^ 64)
     counts_fit = (
-      grown,
-      entered_bounded,
-      still_taken (machine_in rules b) same (right_in rules b) book.machine book.merges b book.law i e at taken ys
-          steps.expansion appended put,
-      small_met (machine_in rules b) same (right_in rules b) book.machine book.merges b book.law i e at taken ys
-          steps.expansion appended put (n - (len - was)) (omega (arith, all_steps)),
+      omega (arith, grown),
+      omega (arith, grown, few),
+      (e, rw put (get-append_left b.entries (map (opened i) news) i e at), taken),
+      met_fits (machine_in rules b) same (right_in rules b) book.machine book.merges b book.law i e at taken ys
+          steps.expansion (n - (len - was)) (omega (arith, few)),
     )
 
     module _ (new : List (Entry (State Machine Memory Place Form))) (marked : new ≡ with_mark appended i Expanded)
         (room : length appended ≤ b.limit) where
+      entries_are : new ≡ with_successors same b.entries i ys
+      entries_are =
+          rw (marked, put)
+          (with_mark-append b.entries (map (opened i) news) i Expanded (slice_get_within b.entries i e at))
+
       -- the book with them
       abbrev now : Contents Machine (State Machine Memory Place Form)
       now = record b { entries = new; met = b.met + (n - (len - was)) }
 
       pub book_entered : IsBook rules label_of now
       book_entered =
-          record {
-            law = lawful_entered (machine_in rules b) same (right_in rules b) book.machine book.merges b book.law i e at
-                taken ys steps.expansion appended put new (len - was) (n - (len - was)) marked entered_count
-                entered_each room;
-            limits = book.limits;
-            machine = book.machine;
-            merges = book.merges;
-            findings = book.findings;
-            counts = book.counts;
-          }
+          rw entries_are (with_entries book (with_successors same b.entries i ys) (b.met + (n - (len - was)))
+          (entered_book (machine_in rules b) same (right_in rules b) book.machine book.merges b book.law i e at taken ys
+          steps.expansion (len - was) (n - (len - was)) (omega (arith, grown)) (omega (arith, grown, few))
+          (omega (arith, grown))))
 
       pub enters : Enters (CountsAsOne (rules b.machine) b.merge) b now i (record {
         machine = b.machine;
@@ -142,11 +141,9 @@ module _ {Machine Memory Place Form : Type 0} {rules : Machine → Rules Memory 
             added = news;
             are_new = news_are;
             room = omega (arith, grown);
-            entries =
-                entered_entries (machine_in rules b) same (right_in rules b) book.machine book.merges b book.law i e at
-                taken ys steps.expansion appended put new marked;
-            count = entered_count;
-            each = entered_each;
+            entries = entries_are;
+            count = omega (arith, grown);
+            each = omega (arith, grown, few);
             met_in_all = refl;
             machine = refl;
             program = refl;

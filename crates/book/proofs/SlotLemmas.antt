@@ -1,45 +1,28 @@
 -- Rows put under keys that are new.
-use Rattle.std.proofs.Common.{◌≡◌, ℕ, zero, suc, true, false, Bool, Option, Some, None, is_some, List, []}
-use Rattle.std.proofs.Common.{◌∷◌, ◌++◌, length, map, refl, ap, append-nil, append_assoc, slice_get, inl, inr}
-use Rattle.std.proofs.Common.{arith}
+use Rattle.std.proofs.Common.{◌≡◌, ℕ, zero, suc, false, Bool, cond, Option, Some, None, List, [], ◌∷◌, ◌++◌, length}
+use Rattle.std.proofs.Common.{◌+◌, map, refl, ap, append-nil, append_assoc, length-append, slice_get, inl, inr}
 use Rattle.std.specs.List.{list_any}
 use Rattle.std.specs.Cmp.Lexicographic.{lists_equiv}
-use Rattle.std.specs.Map.{lookup, keys_of, values_of}
+use Rattle.std.specs.Map.{keys_of, values_of}
 use Rattle.std.proofs.Math.ListN.{length-map}
-use Rattle.std.proofs.lemmas.Bool.{cases_Bool, cond_both, or_parts}
+use Rattle.std.proofs.Math.Seq.{take-append_seam}
+use Rattle.std.proofs.lemmas.Bool.{cases_Bool, or_parts}
 use Rattle.std.proofs.lemmas.List.{map-append}
-use Rattle.std.proofs.lemmas.Map.Made.{is_some-lookup}
-use Rattle.std.proofs.lemmas.Option.{slice_get_within}
-use Rattle.tree_machine.proofs.Lists.{get-append_cases}
 use Rattle.tree_machine.specs.Laws.CellOrder.{nat_equivalence}
 use Rattle.indexmap.specs.IndexMap.{insert_entry, set_value_at}
-use Rattle.book.specs.declared.entry.Mark.{Mark}
-use Rattle.book.specs.declared.entry.Mark.TheVariants.{Open}
-use Rattle.book.specs.declared.entry.Origin.{Origin}
-use Rattle.book.specs.Entries.{Entry, Successor, with_mark, opened, states}
-use Rattle.book.specs.Labels.{same_label}
+use Rattle.book.specs.Entries.{Mark, Open, Entry, Successor, opened, with_mark}
+use Rattle.book.specs.Labels.{Kept, same_label, steps_of}
 use Rattle.book.specs.Unknown.{knows, unknown}
-use Rattle.book.specs.Slots.{AreSteps, IsGrown, unlisted, keyed_of, entries_of, labels_of}
-use Rattle.book.proofs.Lists.{behind, get-single, map-map, put_behind}
+use Rattle.book.specs.Slots.{IsGrown, entries_of, labels_of, row_of, with_rows, with_steps}
+use Rattle.book.proofs.Lists.{map-map}
 
-module _ {K V : Type 0} (eq : K → K → Bool) where
-  -- a key that is not there goes last
-  put_last : (es : List (K × V)) (k : K) (v : V) → list_any (eq k) (keys_of es) ≡ false
-      → insert_entry eq es k v ≡ es ++ (k, v) ∷ []
-  put_last [] k v none = refl
-  put_last (e ∷ es) k v none =
-      let apart = or_parts (eq k e.0) (list_any (eq k) (keys_of es)) none in
-      rw (apart.0, put_last es k v apart.1) refl
-
-  -- where the key is not there
-  pub put_new_key : (es : List (K × V)) (k : K) (v : V) → is_some (lookup (eq k) es) ≡ false
-      → insert_entry eq es k v ≡ es ++ unlisted eq (keys_of es) ((k, v) ∷ [])
-  put_new_key es k v none = let apart = rw is_some-lookup at none in rw apart (put_last es k v apart)
-
-  -- where it is
-  pub put_known_key : (es : List (K × V)) (k : K) (v : V) → is_some (lookup (eq k) es) ≡ true
-      → es ≡ es ++ unlisted eq (keys_of es) ((k, v) ∷ [])
-  put_known_key es k v some = rw (rw is_some-lookup at some, append-nil) refl
+-- a key that is not there goes last
+pub put_last : {K V : Type 0} (eq : K → K → Bool) (es : List (K × V)) (k : K) (v : V)
+    → list_any (eq k) (keys_of es) ≡ false → insert_entry eq es k v ≡ es ++ (k, v) ∷ []
+put_last eq [] k v none = refl
+put_last eq (e ∷ es) k v none =
+    let apart = or_parts (eq k e.0) (list_any (eq k) (keys_of es)) none in
+    rw (apart.0, put_last eq es k v apart.1) refl
 
 module _ {S : Type 0} where
   -- a row written with another mark
@@ -67,74 +50,65 @@ module _ {S : Type 0} where
   pub length-entries : (es : List (List ℕ × Entry S)) → length (entries_of es) ≡ length es
   length-entries es = length-map es (λ slot. slot.1)
 
--- ---- a row that is put in for a step
-known_as : {S : Type 0} (es : List (List ℕ × Entry S)) (k : List ℕ)
-    → list_any (same_label k) (keys_of es) ≡ knows same_label (states (map keyed_of es)) k
+-- ---- rows that are put in for steps
+known_as : (known : List (List ℕ)) (k : List ℕ) → list_any (same_label k) known ≡ knows same_label known k
 known_as [] k = refl
-known_as (p ∷ es) k = rw ((lists_equiv nat_equivalence).symm k p.0, known_as es k) refl
+known_as (l ∷ known) k = rw ((lists_equiv nat_equivalence).symm k l, known_as known k) refl
 
-module _ {S : Type 0} (es new : List (List ℕ × Entry S)) (i : ℕ) (x : Successor (List ℕ)) (row : Entry S) (s : S)
-    (put : new ≡ es ++ unlisted same_label (keys_of es) ((x.state, row) ∷ []))
-    (is : row ≡ record {
-      state = s;
-      finding = x.finding;
-      origin = Some (record { parent = i; thread = x.thread });
-      mark = Open;
-    }) where
-  -- it is under the step's label
-  pub put_step : map keyed_of new
-      ≡ map keyed_of es ++ map (opened i) (unknown same_label (states (map keyed_of es)) (x ∷ []))
-  put_step =
-      rw (put, map-append, is, known_as es x.state)
-      (elim (cases_Bool (knows same_label (states (map keyed_of es)) x.state)) [
+unknown_push : {S : Type 0} (same : S → S → Bool) (known : List S) (xs : List (Successor S)) (x : Successor S)
+    → unknown same known (xs ++ x ∷ []) ≡ unknown same known xs
+    ++ unknown same (known ++ map (λ (y : Successor S). y.state) (unknown same known xs)) (x ∷ [])
+unknown_push same known [] x = rw append-nil refl
+unknown_push same known (y ∷ xs) x = elim (cases_Bool (knows same known y.state)) [
+  | inl t ↦ rw t (unknown_push same known xs x)
+  | inr f ↦ rw (f, unknown_push same (known ++ y.state ∷ []) xs x, append_assoc) refl
+]
+
+module _ {S : Type 0} (step : S → ℕ → Option S) (s : S) (i : ℕ) where
+  -- a row that goes last where its label is not there is that of its step
+  pub one_put : (es new : List (List ℕ × Entry S)) (x : Successor (List ℕ)) (row : Entry S) (r : S)
+      → new ≡ es ++ cond (list_any (same_label x.state) (keys_of es)) [] ((x.state, row) ∷ [])
+      → row ≡ record {
+        state = r;
+        finding = x.finding;
+        origin = Some (record { parent = i; thread = x.thread });
+        mark = Open;
+      }
+      → step s x.thread ≡ Some r → new ≡ with_rows step s i es (x ∷ [])
+  one_put es new x row r put is leads =
+      rw (put, is, known_as (labels_of es) x.state)
+      (elim (cases_Bool (knows same_label (labels_of es) x.state)) [
         | inl t ↦ rw t refl
-        | inr f ↦ rw f refl
+        | inr f ↦ rw (f, leads) refl
       ])
 
-  -- and is the step
-  pub one_step : (step : S → ℕ → Option S) (source : S) → step source x.thread ≡ Some s → AreSteps step source es new
-  one_step step source leads j slot le at =
-      elim (get-append_cases es (unlisted same_label (keys_of es) ((x.state, row) ∷ [])) j slot (rw put at at)) [
-        | inl old ↦ let less = slice_get_within es j slot old in absurd (omega arith)
-        | inr r ↦ cond_both (list_any (same_label x.state) (keys_of es)) [] ((x.state, row) ∷ [])
-            (λ (slots : List (List ℕ × Entry S)). slice_get slots r.0 ≡ Some slot
-            → (o : Origin) × (slot.1.origin ≡ Some o) × (step source o.thread ≡ Some slot.1.state))
-            (λ _ none. cc)
-            (λ _ there. rw (← get-single (x.state, row) r.0 slot there, is)
-            (record { parent = i; thread = x.thread }, refl, leads)) r.2
-      ]
-
--- ---- step after step
-module _ {S : Type 0} (step : S → ℕ → Option S) (s : S) where
-  pub no_steps : (es new : List (List ℕ × Entry S)) → new ≡ es → AreSteps step s es new
-  no_steps es new is i slot le at =
-      let less = slice_get_within es i slot (rw is at at) in absurd (omega arith)
-
-  pub more_steps : (old mid new : List (List ℕ × Entry S)) → IsGrown mid new → AreSteps step s old mid
-      → AreSteps step s mid new → AreSteps step s old new
-  more_steps old mid new grown first then i slot le at =
-      elim (get-append_cases mid (behind mid new) i slot (rw (put_behind mid new grown) at at)) [
-        | inl l ↦ first i slot le l
-        | inr r ↦ then i slot (omega (arith, r.1)) at
-      ]
-
-module _ {S : Type 0} (same : S → S → Bool) where
-  unknown_push : (known : List S) (xs : List (Successor S)) (x : Successor S)
-      → unknown same known (xs ++ x ∷ []) ≡ unknown same known xs
-      ++ unknown same (known ++ map (λ (y : Successor S). y.state) (unknown same known xs)) (x ∷ [])
-  unknown_push known [] x = rw append-nil refl
-  unknown_push known (y ∷ xs) x = elim (cases_Bool (knows same known y.state)) [
-    | inl t ↦ rw t (unknown_push known xs x)
-    | inr f ↦ rw (f, unknown_push (known ++ y.state ∷ []) xs x, append_assoc) refl
-  ]
-
-  -- a turn of the loop
-  pub put_turn : (old mid new : List (Entry S)) (i : ℕ) (xs : List (Successor S)) (x : Successor S)
-      → mid ≡ old ++ map (opened i) (unknown same (states old) xs)
-      → new ≡ mid ++ map (opened i) (unknown same (states mid) (x ∷ []))
-      → new ≡ old ++ map (opened i) (unknown same (states old) (xs ++ x ∷ []))
-  put_turn old mid new i xs x so_far put =
-      let us : List (Successor S) = unknown same (states old) xs in
-      let known : states mid ≡ states old ++ map (λ (y : Successor S). y.state) us =
+  -- and so on, step after step
+  pub more_put : (old mid new : List (List ℕ × Entry S)) (xs : List (Successor (List ℕ))) (x : Successor (List ℕ))
+      → mid ≡ with_rows step s i old xs → new ≡ with_rows step s i mid (x ∷ [])
+      → new ≡ with_rows step s i old (xs ++ x ∷ [])
+  more_put old mid new xs x so_far put =
+      let us = unknown same_label (labels_of old) xs in
+      let known : labels_of mid ≡ labels_of old ++ map (λ (y : Successor (List ℕ)). y.state) us =
       rw so_far (simp (map-append, map-map)) in
-      rw (put, known, so_far, unknown_push (states old) xs x, map-append (opened i) us, append_assoc) refl
+      let more = unknown_push same_label (labels_of old) xs x in
+      rw (put, known, so_far, more, map-append (row_of step s i) us, append_assoc) refl
+
+  pub grown : (old new : List (List ℕ × Entry S)) (xs : List (Successor (List ℕ))) → new ≡ with_rows step s i old xs
+      → IsGrown old new
+  grown old new xs put = rw put (take-append_seam old _)
+
+  pub length_with : (old new : List (List ℕ × Entry S)) (xs : List (Successor (List ℕ)))
+      → new ≡ with_rows step s i old xs → length new ≡ length old + length (unknown same_label (labels_of old) xs)
+  length_with old new xs put = rw (put, length-append, length-map) refl
+
+  -- what the table shows then
+  pub shown_with : (old new : List (List ℕ × Entry S)) (xs : List (Successor (List ℕ)))
+      → new ≡ with_rows step s i old xs → (kept : Kept S)
+      → record { entries = entries_of old; labels = labels_of old } ≡ kept
+      → record { entries = entries_of new; labels = labels_of new } ≡ with_steps step s i kept xs
+  shown_with old new xs put kept view = rw (← view, put) (simp (map-append, map-map))
+
+  pub entries_with : (old new : List (List ℕ × Entry S)) (xs : List (Successor (List ℕ)))
+      → new ≡ with_rows step s i old xs → entries_of new
+      ≡ entries_of old ++ map (opened i) (steps_of step s (unknown same_label (labels_of old) xs))
+  entries_with old new xs put = ap (λ (k : Kept S). k.entries) (shown_with old new xs put _ refl)

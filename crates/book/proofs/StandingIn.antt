@@ -1,28 +1,22 @@
 -- States that count as one: they have the same findings and labels, and so have their steps.
-use Rattle.std.proofs.Common.{◌≡◌, ℕ, ◌++◌, ◌∷◌, [], ◌∙◌, List, Option, Some, None}
-use Rattle.std.proofs.Common.{ap, arith, refl, sym}
+use Rattle.std.proofs.Common.{◌≡◌, ℕ, ◌++◌, ◌∷◌, [], ◌∙◌, List, Option, Some, None, ap, arith, refl, sym}
 use Rattle.tree_machine.specs.Alike.{AreStatesAlike}
 use Rattle.tree_machine.specs.Flat.{number_code}
 use Rattle.tree_machine.specs.FormCode.{content_code, named_code, state_code}
 use Rattle.tree_machine.specs.InRange.{AreNumbersInRange}
 use Rattle.tree_machine.specs.Rules.{Rules, AreLawful, AreFormsExact}
 use Rattle.tree_machine.specs.Step.{step, Fits}
-use Rattle.tree_machine.specs.declared.code_offsets.CodeOffsets.{CodeOffsets}
-use Rattle.tree_machine.specs.declared.front.Front.{Front}
 use Rattle.tree_machine.specs.declared.state.State.{State}
 use Rattle.tree_machine.proofs.Alike.{alike_step, alike_history, alike_ordered}
 use Rattle.tree_machine.proofs.Forms.{forms_alike, alike_turned, numbers_fit}
 use Rattle.tree_machine.proofs.States.{step_fits}
-use Rattle.sched_program.specs.Program.{Program, IsWithinLimits}
-use Rattle.sched_program.specs.declared.operation.OpId.{OpId}
+use Rattle.sched_program.specs.Program.{Program}
 use Rattle.options.specs.declared.options.Merge.{Merge}
 use Rattle.options.specs.declared.options.Merge.TheVariants.{Exact, Names}
-use Rattle.replay.specs.declared.finding.Finding.{Finding}
+use Rattle.book.specs.Entries.{Finding, Successor}
 use Rattle.replay.specs.declared.finding.Finding.TheVariants as found
 use Rattle.book.specs.Books.{CountsAsOne}
-use Rattle.book.specs.ByLabel.{IsTakenOf, TakenView}
-use Rattle.book.specs.Decoding.{IsRead, IsSource, StandsIn}
-use Rattle.book.specs.declared.successor.Successor.{Successor}
+use Rattle.book.specs.Decoding.{StandsIn}
 use Rattle.book.specs.Expanding.{Puts, PutsStep}
 use Rattle.replay.specs.Findings.{machine_of, IsFindingOf}
 use Rattle.book.specs.Labels.{label_by}
@@ -115,28 +109,3 @@ read_stands rules program own_code form_code form_of code c whole named label wr
 read_stands rules program own_code form_code form_of code c whole named label written Names s fits is =
     let law = named s (numbers_fit rules program s fits) (sym (is ∙ written)) in
     record { counts = law.0; fits = law.1 program fits; steps = omega (arith, law.2) }
-
--- what is read from the label of a sound taken entry is the source of the steps of each state with that label
-pub source_of : {Machine Memory Place Form : Type 0} (front_code : Front → Memory → List ℕ)
-    (behind_code : Front → Memory → List (Option Place) → List ℕ) (rules : Machine → Rules Memory Place)
-    (own_code : Memory → List (Option Place) → List ℕ) (form_code : Form → List ℕ)
-    (form_of : Machine → Memory → List (Option Place) → Form) (taken : TakenView Machine) (offsets : CodeOffsets)
-    (order : List OpId) (c : State Machine Memory Place Form) → AreLawful (rules taken.key.machine)
-    → AreFormsExact (rules taken.key.machine) (form_of taken.key.machine) → IsWithinLimits taken.key.program
-    → IsTakenOf rules own_code form_code form_of taken → taken.finding ≡ found.Sound order
-    → IsRead front_code behind_code own_code form_code (form_of taken.key.machine) (rules taken.key.machine)
-    taken.key.label offsets c
-    → IsSource front_code behind_code rules own_code form_code form_of taken.key offsets order c
-source_of front_code behind_code rules own_code form_code form_of taken offsets order c lawful forms limits of sound
-    read =
-    let key = taken.key in
-    let stands = read.stands key.merge key.program limits of.state of.fits of.label in
-    record {
-      read = read.read;
-      fits = stands.fits;
-      steps_fit = omega (arith, stands.steps, of.bounded);
-      sound = one_found (rules key.machine) key.program (form_of key.machine) lawful forms key.merge of.state c of.fits
-          stands.fits stands.counts (found.Sound order)
-          (rw sound at of.finding);
-      counts = (λ r r_fits r_is. (read.stands key.merge key.program limits r r_fits r_is).counts);
-    }

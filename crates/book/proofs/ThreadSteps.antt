@@ -1,13 +1,12 @@
 -- The steps of a state are taken thread by thread.
-use Rattle.std.proofs.Common.{◌≡◌, ℕ, ◌+◌, cond, Option, Some, None, is_some, List, [], ◌∷◌, ◌++◌}
-use Rattle.std.proofs.Common.{refl, arith, append-nil}
+use Rattle.std.proofs.Common.{◌≡◌, ℕ, ◌+◌, cond, Option, Some, None, is_some, List, [], ◌∷◌, ◌++◌, refl, arith}
+use Rattle.std.proofs.Common.{append-nil, map-id}
 use Rattle.std.specs.List.{range_with_len}
-use Rattle.std.proofs.lemmas.List.{map-id, map_push}
+use Rattle.std.proofs.lemmas.List.{map_push}
 use Rattle.std.proofs.lemmas.List.FromFn.{map-range_with_len_more}
 use Rattle.std.proofs.lemmas.List.Elements.{filter-append}
-use Rattle.replay.specs.declared.finding.Finding.{Finding}
+use Rattle.book.specs.Entries.{Finding, Successor}
 use Rattle.replay.specs.Schedule.{StepMachine, enabled_threads}
-use Rattle.book.specs.Entries.{Successor}
 use Rattle.book.specs.Law.{IsExpansion}
 use Rattle.book.specs.Labels.{steps_of}
 use Rattle.book.specs.ByLabel.{AreStepsOf}

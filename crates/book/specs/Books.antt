@@ -8,10 +8,9 @@ use Rattle.tree_machine.specs.declared.state.State.{State}
 use Rattle.options.specs.declared.options.Merge.{Merge}
 use Rattle.options.specs.declared.options.Merge.TheVariants.{Exact, Names}
 use Rattle.book.specs.declared.book.Totals.{Totals}
-use Rattle.replay.specs.declared.finding.Finding.{Finding}
+use Rattle.book.specs.Entries.{Finding, Contents, Steps, is_open, is_taken, is_expanded}
 use Rattle.replay.specs.Schedule.{AreOneBy, StepMachine, IsMachine, Merges}
 use Rattle.replay.specs.Findings.{machine_of, IsFindingOf}
-use Rattle.book.specs.Entries.{Contents, Steps, is_open, is_taken, is_expanded}
 use Rattle.book.specs.Labels.{same_as}
 use Rattle.book.specs.Law.{FindsAlike, IsLawfulBook, IsExpansion}
 

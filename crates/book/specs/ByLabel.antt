@@ -5,7 +5,7 @@ use Rattle.tree_machine.specs.Rules.{Rules}
 use Rattle.tree_machine.specs.Step.{Fits}
 use Rattle.tree_machine.specs.declared.state.State.{State}
 use Rattle.book.specs.Books.{CountsAsOne}
-use Rattle.book.specs.Entries.{Contents, Entry, Steps, At, IsFullFor, IsTaken}
+use Rattle.book.specs.Entries.{Contents, Entry, Steps, At, IsFullFor, IsTaken, Finding, Successor}
 use Rattle.book.specs.Expanding.{PutsStep}
 use Rattle.replay.specs.Findings.{machine_of, IsFindingOf}
 use Rattle.book.specs.Labels.{HoldsOfLabel, label_by, labelled, steps_of}
@@ -14,9 +14,7 @@ use Rattle.replay.specs.Schedule.{StepMachine}
 use Rattle.book.specs.declared.book.EnterFault.{EnterFault}
 use Rattle.book.specs.declared.book.EnterFault.TheVariants.{NotTaken, Stranger, Full, OutOfMemory}
 use Rattle.options.specs.declared.options.Merge.{Merge}
-use Rattle.replay.specs.declared.finding.Finding.{Finding}
 use Rattle.book.specs.declared.expanding.EntryKey.{EntryKey}
-use Rattle.book.specs.declared.successor.Successor.{Successor}
 
 -- labelled steps are all enabled steps of a state, each with a right finding and by its label
 pub record AreStepsOf {S : Type 0} (m : StepMachine S) (right : S → Finding → Type 0) (label_of : S → List ℕ) (s : S)

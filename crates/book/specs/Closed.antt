@@ -1,8 +1,7 @@
 -- Books in which every entry is expanded, and those whose every entry is sound.
 use Rattle.std.specs.Prelude.{◌≡◌, ℕ, true, List}
-use Rattle.book.specs.declared.entry.Mark.TheVariants.{Expanded}
+use Rattle.book.specs.Entries.{Expanded, Entry, Contents, At}
 use Rattle.options.specs.declared.options.Merge.TheVariants.{Names}
-use Rattle.book.specs.Entries.{Entry, Contents, At}
 use Rattle.replay.specs.Findings.{is_sound}
 
 -- no entry is open or taken

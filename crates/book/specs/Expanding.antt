@@ -1,7 +1,6 @@
 -- How the steps of a state are appended to a list, thread by thread.
 use Rattle.std.specs.Prelude.{◌≡◌, ℕ, Option, Some, None, List, [], ◌∷◌, ◌++◌}
-use Rattle.replay.specs.declared.finding.Finding.{Finding}
-use Rattle.book.specs.declared.successor.Successor.{Successor}
+use Rattle.book.specs.Entries.{Finding, Successor}
 use Rattle.replay.specs.Schedule.{StepMachine}
 
 module _ {S T : Type 0} (m : StepMachine S) (right : S → Finding → Type 0) (put_as : S → T) (thread : ℕ)

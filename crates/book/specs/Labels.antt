@@ -6,12 +6,11 @@ use Rattle.sched_program.specs.Program.{Program}
 use Rattle.tree_machine.specs.Rules.{Rules}
 use Rattle.tree_machine.specs.Step.{Fits}
 use Rattle.tree_machine.specs.declared.state.State.{State}
-use Rattle.book.specs.Entries.{Entry}
+use Rattle.book.specs.Entries.{Entry, Successor}
 use Rattle.tree_machine.specs.declared.naming.Naming.{Naming}
 use Rattle.tree_machine.specs.declared.naming.Naming.TheVariants.{Own, Canonical}
 use Rattle.options.specs.declared.options.Merge.{Merge}
 use Rattle.options.specs.declared.options.Merge.TheVariants.{Exact, Names}
-use Rattle.book.specs.declared.successor.Successor.{Successor}
 
 -- the numbers by which labels name nodes and records
 abbrev pub naming_of : Merge → Naming

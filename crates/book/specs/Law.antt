@@ -1,11 +1,8 @@
 -- When a book is lawful.
 use Rattle.std.specs.Prelude.{◌≡◌, ◌≢◌, ℕ, ◌+◌, ◌<◌, ◌≤◌, Some, None, List, length, map, slice_get, sum_by}
 use Rattle.std.specs.Prelude.{if◌then◌else◌}
-use Rattle.replay.specs.declared.finding.Finding.{Finding}
-use Rattle.book.specs.declared.entry.Mark.TheVariants.{Taken, Expanded}
-use Rattle.book.specs.declared.entry.Origin.{Origin}
+use Rattle.book.specs.Entries.{Finding, Taken, Expanded, Origin, Entry, Successor, Contents, At, is_expanded}
 use Rattle.replay.specs.Schedule.{StepMachine, enabled_threads, run}
-use Rattle.book.specs.Entries.{Entry, Successor, Contents, At, is_expanded}
 use Rattle.book.specs.Layers.{IsExpandedBelow}
 
 module _ {S : Type 0} (m : StepMachine S) where

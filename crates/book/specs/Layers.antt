@@ -1,7 +1,6 @@
 -- Which entries are worked off, by their step counts.
 use Rattle.std.specs.Prelude.{◌≡◌, ◌≢◌, ℕ, ◌+◌, ◌<◌, ◌≤◌, ◌⊎◌, true, List}
-use Rattle.book.specs.declared.entry.Mark.TheVariants.{Taken, Expanded}
-use Rattle.book.specs.Entries.{Entry, At}
+use Rattle.book.specs.Entries.{Taken, Expanded, Entry, At}
 use Rattle.replay.specs.Findings.{is_sound}
 
 -- each entry of at most n steps is expanded

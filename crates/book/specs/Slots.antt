@@ -1,25 +1,11 @@
 -- Rows under keys.
-use Rattle.std.specs.Prelude.{◌≡◌, ◌≢◌, ℕ, ◌<◌, ◌≤◌, Bool, not, Option, Some, position, slice_get, List, [], ◌∷◌, ◌++◌}
-use Rattle.std.specs.Prelude.{length, map, take, if◌then◌else◌}
-use Rattle.std.specs.List.{list_any}
+use Rattle.std.specs.Prelude.{◌≡◌, ◌≢◌, ℕ, ◌<◌, ◌≤◌, not, Option, Some, position, slice_get, List, ◌++◌, length, map}
+use Rattle.std.specs.Prelude.{take, unwrap_or}
 use Rattle.std.specs.declared.sync.Arc.{Arc}
-use Rattle.book.specs.declared.entry.Origin.{Origin}
-use Rattle.book.specs.declared.entry.Mark.TheVariants.{Open, Expanded}
-use Rattle.book.specs.Entries.{Entry, At}
+use Rattle.book.specs.Entries.{Open, Expanded, Entry, Successor, At, opened}
+use Rattle.book.specs.Labels.{Kept, same_label, steps_of}
+use Rattle.book.specs.Unknown.{unknown}
 use Rattle.replay.specs.Findings.{is_sound}
-
-module _ {K V : Type 0} (eq : K → K → Bool) where
-  -- the pairs, in order, whose keys are neither known nor those of earlier ones
-  abbrev pub unlisted : List K → List (K × V) → List (K × V)
-  unlisted known [] = []
-  unlisted known (x ∷ xs) =
-      if list_any (eq x.0) known
-      then unlisted known xs
-      else x ∷ unlisted (known ++ x.0 ∷ []) xs
-
--- a label with its row, as an entry of labels in place of states
-abbrev pub keyed_of : {S : Type 0} → List ℕ × Entry S → Entry (List ℕ)
-keyed_of slot = record { state = slot.0; finding = slot.1.finding; origin = slot.1.origin; mark = slot.1.mark }
 
 -- the rows
 abbrev pub entries_of : {S : Type 0} → List (List ℕ × Entry S) → List (Entry S)
@@ -29,11 +15,26 @@ entries_of slots = map (λ slot. slot.1) slots
 abbrev pub labels_of : {S : Type 0} → List (List ℕ × Entry S) → List (List ℕ)
 labels_of slots = map (λ slot. slot.0) slots
 
--- each row that came behind the old ones is the step of its thread from this state
-abbrev pub AreSteps : {S : Type 0} → (S → ℕ → Option S) → S → List (List ℕ × Entry S) → List (List ℕ × Entry S)
-    → Type 0
-AreSteps {S} step s old new = (i : ℕ) (slot : List ℕ × Entry S) → length old ≤ i → slice_get new i ≡ Some slot
-    → (o : Origin) × (slot.1.origin ≡ Some o) × (step s o.thread ≡ Some slot.1.state)
+-- the row for a labelled step of entry `parent`, whose state is s: it is open, and under the label
+abbrev pub row_of : {S : Type 0} → (S → ℕ → Option S) → S → ℕ → Successor (List ℕ) → List ℕ × Entry S
+row_of step s parent x = (
+  x.state,
+  opened parent (record { thread = x.thread; state = unwrap_or (step s x.thread) s; finding = x.finding }),
+)
+
+-- a table with the rows of those labelled steps, in order, whose labels are neither known nor those of earlier ones
+abbrev pub with_rows : {S : Type 0} → (S → ℕ → Option S) → S → ℕ → List (List ℕ × Entry S)
+    → List (Successor (List ℕ)) → List (List ℕ × Entry S)
+with_rows step s parent slots xs = slots ++ map (row_of step s parent) (unknown same_label (labels_of slots) xs)
+
+-- what it shows
+abbrev pub with_steps : {S : Type 0} → (S → ℕ → Option S) → S → ℕ → Kept S → List (Successor (List ℕ)) → Kept S
+with_steps step s parent kept xs =
+    let new = unknown same_label kept.labels xs in
+    record {
+      entries = kept.entries ++ map (opened parent) (steps_of step s new);
+      labels = kept.labels ++ map (λ x. x.state) new;
+    }
 
 -- each number is that of an entry, and the state beside it is the entry's
 abbrev pub AreStatesOf : {S A : Type 0} → List (Entry S) → List (ℕ × Arc S A) → Type 0

@@ -1,9 +1,7 @@
 -- The new ones among successors, by a test that counts two states as one.
 use Rattle.std.specs.Prelude.{ℕ, Bool, if◌then◌else◌, List, [], ◌∷◌, ◌++◌, map}
 use Rattle.std.specs.List.{list_any}
-use Rattle.book.specs.declared.entry.Mark.TheVariants.{Expanded}
-use Rattle.book.specs.declared.successor.Successor.{Successor}
-use Rattle.book.specs.Entries.{Entry, opened, states, with_mark}
+use Rattle.book.specs.Entries.{Expanded, Successor, Entry, opened, states, with_mark}
 
 module _ {S : Type 0} where
   -- whether one of the states counts as the same

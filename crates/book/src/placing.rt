@@ -1,11 +1,8 @@
 //! Steps inserted into the entries of a book.
-ghost use Rattle.std.specs.Prelude.{◌≡◌, ◌<◌, ◌++◌, ◌∷◌, [], map, IsSome, OnOk};
+ghost use Rattle.std.specs.Prelude.{◌≡◌, ◌<◌, ◌∷◌, [], IsSome, OnErr, OnOk};
 ghost use Rattle.std.specs.List.{All};
 ghost use Rattle.tree_machine.specs.Step.{step};
-ghost use Rattle.book.specs.Entries.{opened, states};
-ghost use Rattle.book.specs.Labels.{same_label};
-ghost use Rattle.book.specs.Slots.{keyed_of, AreSteps, IsGrown};
-ghost use Rattle.book.specs.Unknown.{unknown};
+ghost use Rattle.book.specs.Slots.{IsGrown, with_rows};
 
 use crate::entry::{Origin, Row};
 use crate::label::Label;
@@ -31,11 +28,9 @@ fn put_step<M: Encode>(
 ) -> Result<(), AllocError>
     requires bounded { parent < 4294967295 }
     requires enabled { IsSome (step (M.rules machine) program.now source.now.value one.thread) }
-    ensures put { OnOk result (map keyed_of slots.new.entries ≡ map keyed_of slots.old.entries
-        ++ map (opened parent) (unknown same_label (states (map keyed_of slots.old.entries)) (one ∷ []))) }
-    ensures kept { IsGrown slots.old.entries slots.new.entries }
-    ensures steps { AreSteps (step (M.rules machine) program.now) source.now.value slots.old.entries
-        slots.new.entries }
+    ensures put { OnOk result (slots.new.entries
+        ≡ with_rows (step (M.rules machine) program.now) source.now.value parent slots.old.entries (one ∷ [])) }
+    ensures err { OnErr result (slots.new.entries ≡ slots.old.entries) }
 {
     let Successor {
         thread,
@@ -64,11 +59,9 @@ pub(crate) fn put_steps<M: Encode>(
 ) -> Result<(), AllocError>
     requires bounded { parent < 4294967295 }
     requires enabled { All (λ x. IsSome (step (M.rules machine) program.now source.now.value x.thread)) steps.items }
-    ensures put { OnOk result (map keyed_of slots.new.entries ≡ map keyed_of slots.old.entries
-        ++ map (opened parent) (unknown same_label (states (map keyed_of slots.old.entries)) steps.items)) }
+    ensures put { OnOk result (slots.new.entries
+        ≡ with_rows (step (M.rules machine) program.now) source.now.value parent slots.old.entries steps.items) }
     ensures kept { IsGrown slots.old.entries slots.new.entries }
-    ensures steps { AreSteps (step (M.rules machine) program.now) source.now.value slots.old.entries
-        slots.new.entries }
 {
     for one in steps.drain(..) {
         put_step(slots, machine, program, source, parent, one, recycled)?;

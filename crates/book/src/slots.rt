@@ -1,7 +1,7 @@
 //! Values under keys that are new.
 ghost use Rattle.std.specs.Prelude.{◌≡◌, ◌+◌, ◌++◌, ◌∷◌, [], if◌then◌else◌, is_some, length, IfOk, OnOk, OnErr};
+ghost use Rattle.std.specs.List.{list_any};
 ghost use Rattle.indexmap.specs.IndexMap.{keys};
-ghost use Rattle.book.specs.Slots.{unlisted};
 
 use indexmap::IndexMap;
 use std::alloc::AllocError;
@@ -15,7 +15,7 @@ pub fn put_new<K: Eq + Hash + Drop, V: Drop>(
     value: V,
 ) -> Result<Option<K>, AllocError>
     ensures put { OnOk result (slots.new.entries
-        ≡ slots.old.entries ++ unlisted K.eq (keys slots.old) ((key, value) ∷ [])) }
+        ≡ slots.old.entries ++ (if list_any (K.eq key) (keys slots.old) then [] else (key, value) ∷ [])) }
     ensures len { IfOk result (λ known. length slots.new.entries
         ≡ length slots.old.entries + (if is_some known then 0 else 1)) }
     ensures err { OnErr result (slots.new.entries ≡ slots.old.entries) }

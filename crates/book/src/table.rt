@@ -1,16 +1,16 @@
 //! The entries by number and by label, and cursors to those that are looked for again and again.
-ghost use Rattle.std.specs.Prelude.{◌≡◌, ℕ, ◌+◌, ◌-◌, ◌^◌, ◌<◌, ◌≤◌, ◌++◌, ◌∷◌, ◌⊎◌, [], count_by, length, map, not};
-ghost use Rattle.std.specs.Prelude.{position, true, OnOk, OnErr, IfOk, IfErr, IfSome, IfNone, Some, None, IsSome};
-ghost use Rattle.std.specs.Prelude.{List, slice_get};
+ghost use Rattle.std.specs.Prelude.{◌≡◌, ℕ, ◌+◌, ◌-◌, ◌^◌, ◌<◌, ◌≤◌, ◌∷◌, ◌⊎◌, [], count_by, length, nat_lt, not};
+ghost use Rattle.std.specs.Prelude.{position, true, OnOk, OnErr, IfOk, IfErr, IfSome, Some, None, IsSome, slice_get};
+ghost use Rattle.std.specs.Prelude.{if◌then◌else◌};
 ghost use Rattle.std.specs.List.{All, range_with_len};
 ghost use Rattle.std.specs.Option.{option_copied};
 ghost use Rattle.tree_machine.specs.Step.{step};
 ghost use Rattle.tree_machine.specs.declared.state.State.{State};
-ghost use Rattle.book.specs.Entries.{Entry, At, IsTaken, is_open, is_taken, is_expanded, opened, states};
+ghost use Rattle.book.specs.Entries.{Entry, At, IsTaken, is_open, is_taken, is_expanded};
 ghost use Rattle.book.specs.Entries.{with_mark, with_marks};
 ghost use Rattle.replay.specs.Findings.{is_sound};
-ghost use Rattle.book.specs.Labels.{AreKnownBy, labelled, same_as, steps_of};
-ghost use Rattle.book.specs.Slots.{entries_of, labels_of, IsFirstLeft, IsOpenFrom};
+ghost use Rattle.book.specs.Labels.{same_label};
+ghost use Rattle.book.specs.Slots.{entries_of, labels_of, with_steps, IsFirstLeft, IsOpenFrom};
 ghost use Rattle.book.specs.Unknown.{unknown};
 
 use crate::book::{EnterFault, Totals};
@@ -89,8 +89,7 @@ fn slot_at<S>(slots: &IndexMap<Label, Row<S>>, index: usize) -> (&Label, &Row<S>
 /// An index, if there is a row at it.
 #[inline(always)]
 fn within<S>(slots: &IndexMap<Label, Row<S>>, index: usize) -> Option<usize>
-    ensures some { IfSome result (λ at. (at ≡ index) × (index < length (entries_of slots.now.entries))) }
-    ensures none { IfNone result (length (entries_of slots.now.entries) ≤ index) }
+    ensures { result ≡ (if nat_lt index (length (entries_of slots.now.entries)) then Some index else None) }
 {
     if index < slots.len() {
         Some(index)
@@ -309,18 +308,10 @@ impl<M: Encode> Table<State<M>> {
         requires within { parent < length self.old.entries }
         requires enabled { (e : Entry (State M M.Mem M.Loc M.Form)) → At self.old.entries parent e
             → All (λ x. IsSome (step (M.rules machine) program.now e.state x.thread)) steps.items }
-        ensures put { OnOk result ((label_of : State M M.Mem M.Loc M.Form → List ℕ)
-            (e : Entry (State M M.Mem M.Loc M.Form)) → AreKnownBy label_of self.old → At self.old.entries parent e
-            → steps.items ≡ map (labelled label_of) (steps_of (step (M.rules machine) program.now) e.state steps.items)
-            → (self.new.entries ≡ self.old.entries ++ map (opened parent) (unknown (same_as label_of)
-            (states self.old.entries) (steps_of (step (M.rules machine) program.now) e.state steps.items)))
-            × AreKnownBy label_of self.new) }
+        ensures put { OnOk result ((e : Entry (State M M.Mem M.Loc M.Form)) → At self.old.entries parent e
+            → self.new ≡ with_steps (step (M.rules machine) program.now) e.state parent self.old steps.items) }
         ensures refused { IfErr result (λ fault. (fault ≡ EnterFault.OutOfMemory) ⊎ ((fault ≡ EnterFault.Full)
-            × ((label_of : State M M.Mem M.Loc M.Form → List ℕ) (e : Entry (State M M.Mem M.Loc M.Form))
-            → AreKnownBy label_of self.old → At self.old.entries parent e
-            → steps.items ≡ map (labelled label_of) (steps_of (step (M.rules machine) program.now) e.state steps.items)
-            → limit < length self.old.entries + length (unknown (same_as label_of) (states self.old.entries)
-            (steps_of (step (M.rules machine) program.now) e.state steps.items))))) }
+            × (limit < length self.old.entries + length (unknown same_label self.old.labels steps.items)))) }
         ensures within { OnOk result (length self.new.entries ≤ limit) }
         ensures err { OnErr result (self.new ≡ self.old) }
     {

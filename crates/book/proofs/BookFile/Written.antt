@@ -1,9 +1,7 @@
 -- The lines that a closed and sound book writes pass.
-use Rattle.std.proofs.Common.{rules, ◌≡◌, ℕ, zero, suc, ◌+◌, ◌≤◌, true, None, Some, List, [], ◌∷◌, ◌++◌}
-use Rattle.std.proofs.Common.{length, map, replicate, refl, sym, ap, ◌∙◌, arith, append_assoc, add-zero}
-use Rattle.std.proofs.Common.{append-nil}
+use Rattle.std.proofs.Common.{rules, ◌≡◌, ℕ, zero, suc, ◌+◌, ◌≤◌, true, None, Some, List, [], ◌∷◌, ◌++◌, length, map}
+use Rattle.std.proofs.Common.{replicate, refl, sym, ap, ◌∙◌, arith, append_assoc, add-zero, append-nil, true≢false}
 use Rattle.std.specs.List.{AllZip}
-use Rattle.std.proofs.lemmas.Bool.{true≢false}
 use Rattle.std.proofs.lemmas.List.{map-append, length_push}
 use Rattle.sched_program.specs.Program.{Program}
 use Rattle.sched_program.specs.declared.operation.OpId.{OpId}
@@ -15,9 +13,8 @@ use Rattle.tree_machine.specs.declared.state.State.{State}
 use Rattle.lin.specs.Linearization.{IsLinearization}
 use Rattle.tree_machine.proofs.Lists.{get-append_right}
 use Rattle.book.proofs.EntryLemmas.{get-front}
-use Rattle.replay.specs.declared.finding.Finding.{Finding}
+use Rattle.book.specs.Entries.{Finding, Entry, Contents, At, states}
 use Rattle.replay.specs.declared.finding.Finding.TheVariants as found
-use Rattle.book.specs.Entries.{Entry, Contents, At, states}
 use Rattle.book.specs.Law.{IsLawful}
 use Rattle.replay.specs.Findings.{machine_of, IsFindingOf, is_sound}
 use Rattle.book.proofs.Closed.{worked_out_closed}

@@ -2,10 +2,8 @@
 use Rattle.std.specs.Prelude.{◌≡◌, List, [], ◌∷◌, Option, Some}
 use Rattle.std.specs.List.{AllZip}
 use Rattle.sched_program.specs.declared.operation.OpId.{OpId}
-use Rattle.book.specs.declared.entry.Origin.{Origin}
-use Rattle.replay.specs.declared.finding.Finding.{Finding}
+use Rattle.book.specs.Entries.{Origin, Finding, Entry}
 use Rattle.replay.specs.declared.finding.Finding.TheVariants as found
-use Rattle.book.specs.Entries.{Entry}
 use Rattle.replay.specs.declared.file.line.BookLine.{BookLine}
 
 -- the finding is sound, with this linearization

@@ -1,5 +1,4 @@
-use Rattle.std.proofs.Common.{◌≡◌, ◌≤◌}
-use Rattle.std.specs.Prelude.{vec_len, vec_capacity}
+use Rattle.std.proofs.Common.{◌≡◌, ◌≤◌, vec_len, vec_capacity}
 use Rattle.tree_machine.specs.declared.state.State.{State}
 use Rattle.replay.specs.Findings.{machine_of, IsFindingOf}
 use Rattle.book.specs.ByLabel.{AreStepsOf, HoldsOfKey, label_in}

@@ -1,7 +1,6 @@
 use Rattle.std.proofs.Common.{◌≡◌, sym, ◌∙◌, arith}
 use Rattle.std.proofs.lemmas.Option.{slice_get_within}
-use Rattle.book.specs.declared.entry.Mark.TheVariants.{Expanded}
-use Rattle.book.specs.Entries.{Entry}
+use Rattle.book.specs.Entries.{Expanded, Entry}
 use Rattle.book.specs.Slots.{entries_of}
 use Rattle.book.proofs.SlotLemmas.{length-entries}
 use Rattle.book.proofs.Cursors.{below_next}

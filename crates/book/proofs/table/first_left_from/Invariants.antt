@@ -1,6 +1,5 @@
 use Rattle.std.proofs.Common.{◌≡◌, ℕ, ◌<◌}
-use Rattle.book.specs.declared.entry.Mark.TheVariants.{Expanded}
-use Rattle.book.specs.Entries.{Entry, At}
+use Rattle.book.specs.Entries.{Expanded, Entry, At}
 use Rattle.book.specs.Slots.{entries_of}
 use Rattle.book.proofs.table.first_left_from.Given as goal
 

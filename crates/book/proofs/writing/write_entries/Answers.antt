@@ -1,5 +1,4 @@
-use Rattle.std.proofs.Common.{◌≤◌, length, sym, arith}
-use Rattle.std.proofs.lemmas.List.{take_all}
+use Rattle.std.proofs.Common.{◌≤◌, length, sym, arith, take_all}
 use Rattle.tree_machine.proofs.Lists.{get_at}
 use Rattle.book.proofs.BookFile.Writable.{written_none, written_next, written_all}
 use Rattle.book.proofs.writing.write_entries.Goals as goal

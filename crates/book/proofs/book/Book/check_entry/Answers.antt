@@ -1,5 +1,4 @@
-use Rattle.std.proofs.Common.{sym, ◌∙◌}
-use Rattle.std.proofs.lemmas.Bool.{true≢false}
+use Rattle.std.proofs.Common.{sym, ◌∙◌, true≢false}
 use Rattle.book.proofs.book.Book.check_entry.Goals as goal
 
 pub is_entry_of-requires-clause-taken : goal.is_entry_of-requires-clause-taken

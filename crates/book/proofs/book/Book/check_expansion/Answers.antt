@@ -1,5 +1,4 @@
-use Rattle.std.proofs.Common.{sym, ◌∙◌}
-use Rattle.std.proofs.lemmas.Bool.{true≢false}
+use Rattle.std.proofs.Common.{sym, ◌∙◌, true≢false}
 use Rattle.book.proofs.book.Book.check_expansion.Goals as goal
 
 pub is_expansion_of-requires-after_bounds : goal.is_expansion_of-requires-after_bounds

@@ -1,5 +1,4 @@
-use Rattle.std.proofs.Common.{rules, ◌≡◌, ◌∙◌, sym}
-use Rattle.std.specs.Prelude.{◌↔◌, IsTrue}
+use Rattle.std.proofs.Common.{rules, ◌≡◌, ◌∙◌, sym, ◌↔◌, IsTrue}
 use Rattle.options.specs.declared.options.Merge.TheVariants.{Names}
 use Rattle.book.specs.Books.{machine_in, right_in}
 use Rattle.replay.specs.Schedule.{AreOneBy}

@@ -1,8 +1,8 @@
-use Rattle.std.proofs.Common.{leb}
+use Rattle.std.proofs.Common.{leb, le-leb}
 use Rattle.tree_machine.specs.declared.state.State.{State}
 use Rattle.book.specs.Books.{machine_in, right_in}
 use Rattle.book.specs.Entries.{Entry}
-use Rattle.std.proofs.lemmas.Bool.{le-leb, lt-leb}
+use Rattle.std.proofs.lemmas.Bool.{lt-leb}
 use Rattle.replay.specs.Schedule.{AreOneBy}
 use Rattle.book.proofs.Agreeing.{book_back, count_as}
 use Rattle.book.proofs.Counts.{count_to_is, count_upto}

@@ -1,9 +1,8 @@
 use Rattle.std.proofs.Common.{◌+◌, ◌-◌, ◌^◌, ◌<◌, ◌≤◌, inl, inr, ◌∙◌, refl, sym, arith}
-use Rattle.book.specs.declared.entry.Mark.TheVariants.{Expanded}
-use Rattle.book.specs.Entries.{IsTaken}
+use Rattle.book.specs.Entries.{Expanded, IsTaken}
 use Rattle.std.proofs.lemmas.Option.{same_Some}
 use Rattle.book.proofs.Labels.{known_mark}
-use Rattle.book.proofs.Putting.{book_entered, counts_fit, enters, full_for, here_enabled}
+use Rattle.book.proofs.Putting.{book_entered, counts_fit, enters, full_for, here_enabled, put_in}
 use Rattle.book.proofs.book.Book.enter_steps.Given.{Over}
 use Rattle.book.proofs.book.Book.enter_steps.Goals.{After-len}
 use Rattle.book.proofs.book.Book.enter_steps.Goals as goal
@@ -21,8 +20,10 @@ put : (g : Over) (c : After-len g)
 put g c =
     let taken = rw (← c.self.view_is) at c.requires.taken in
     let steps = (rw (← c.self.view_is) at c.requires.steps) taken.0 taken.1 in
-    let added = (c.in-Ok.ensures.put _ taken.0 c.self.invariant.1 taken.1 steps.labels).0 in
-    counts_fit c.self.invariant.0 _ _ taken.1 _ steps taken.2 _ added _ _ _ c.len-was.ensures c.len.ensures
+    let put =
+    put_in c.self.invariant.0 _ _ taken.1 _ steps c.self.inside.table refl c.self.invariant.1 _
+    (c.in-Ok.ensures.put _ taken.1) in
+    counts_fit c.self.invariant.0 _ _ taken.1 _ steps taken.2 _ put.0 _ _ _ c.len-was.ensures c.len.ensures
     (c.len-count.ensures ∙ c.args.steps.ok.0)
 
 pub overflow_sub-entered : goal.overflow_sub-entered
@@ -41,7 +42,9 @@ pub invariant_of-self-in-Ok : goal.invariant_of-self-in-Ok
 invariant_of-self-in-Ok g c =
     let taken = rw (← c.self.view_is) at c.requires.taken in
     let steps = (rw (← c.self.view_is) at c.requires.steps) taken.0 taken.1 in
-    let put = c.in-Ok.ensures.put _ taken.0 c.self.invariant.1 taken.1 steps.labels in
+    let put =
+    put_in c.self.invariant.0 _ _ taken.1 _ steps c.self.inside.table refl c.self.invariant.1 _
+    (c.in-Ok.ensures.put _ taken.1) in
     rw c.mark_expanded.ensures (
       book_entered c.self.invariant.0 _ _ taken.1 _ steps taken.2 _ put.0 _ _ _ c.len-was.ensures c.len.ensures
           (c.len-count.ensures ∙ c.args.steps.ok.0) _ refl c.in-Ok.ensures.within,
@@ -55,8 +58,8 @@ returns-in-Err-clause-refused g c =
       | inl memory ↦ inl memory
       | inr full ↦ inr (
         full.0,
-        λ e at. full_for c.self.invariant.0 c.args.id e at _ (steps e at)
-            (full.1 _ e c.self.invariant.1 at (steps e at).labels),
+        λ e at. full_for c.self.invariant.0 c.args.id e at _ (steps e at) c.self.inside.table refl c.self.invariant.1
+            full.1,
       )
     ])
 
@@ -67,6 +70,7 @@ returns-in-Ok-clause-entered g c =
     rw (← c.self.view_is) (λ e at.
     let steps = all_steps e at in
     let same = same_Some taken.0 e (sym taken.1 ∙ at) in
-    enters c.self.invariant.0 _ e at _ steps (rw (← same) taken.2) _
-    (c.in-Ok.ensures.put _ e c.self.invariant.1 at steps.labels).0 _ _ _ c.len-was.ensures c.len.ensures
+    let put =
+    put_in c.self.invariant.0 _ _ at _ steps c.self.inside.table refl c.self.invariant.1 _ (c.in-Ok.ensures.put _ at) in
+    enters c.self.invariant.0 _ e at _ steps (rw (← same) taken.2) _ put.0 _ _ _ c.len-was.ensures c.len.ensures
     (c.len-count.ensures ∙ c.args.steps.ok.0) _ (rw c.mark_expanded.ensures refl) c.in-Ok.ensures.within)

@@ -1,7 +1,5 @@
-use Rattle.std.proofs.Common.{rules, ◌≡◌, sym, ◌∙◌}
-use Rattle.std.specs.Prelude.{◌↔◌, IsTrue}
+use Rattle.std.proofs.Common.{rules, ◌≡◌, sym, ◌∙◌, ◌↔◌, IsTrue, true≢false}
 use Rattle.std.specs.Cmp.Lexicographic.{lists_equiv}
-use Rattle.std.proofs.lemmas.Bool.{true≢false}
 use Rattle.sched_program.specs.Laws.Exact.{nat_exact, list_exact}
 use Rattle.tree_machine.specs.Laws.CellOrder.{nat_equivalence}
 use Rattle.book.proofs.EntryLabels.{label_there}

@@ -2,8 +2,8 @@ use Rattle.std.proofs.Common.{◌≡◌, ap, refl, sym, ◌∙◌}
 use Rattle.std.proofs.lemmas.Option.{slice_get_within}
 use Rattle.tree_machine.specs.FormCode.{state_code}
 use Rattle.tree_machine.specs.Laws.Codes.{state_code_tells, own_tells}
-use Rattle.book.proofs.Entering.{own_from}
-use Rattle.book.proofs.EntryLabels.{exact_label}
+use Rattle.book.specs.Labels.{label_by}
+use Rattle.book.proofs.EntryLabels.{label_there, own_from}
 use Rattle.book.proofs.book.Book.is_expansion_of.Goals as goal
 
 pub label-requires : goal.label-requires
@@ -19,8 +19,8 @@ returns-in-Exact-clause-answer g c =
     coding.own_cut in
     let taken = rw (← c.self.view_is) at c.requires in
     let code : c.label.result.now ≡ state_code g.M.Encode.own_code taken.0.state =
-    exact_label g.M.Encode.own_code g.M.Encode.form_code (g.M.Machine.form_of s.machine) s.merge c.in-Exact.is
-    s.table c.self.invariant.1 c.args.id taken.0 taken.1 c.label.result.now c.label.ensures in
+    rw c.in-Exact.is at (label_there (label_by g.M.Encode.own_code g.M.Encode.form_code
+    (g.M.Machine.form_of s.machine) s.merge) s.table c.self.invariant.1 c.args.id taken.0 taken.1 _ c.label.ensures) in
     rw (← c.self.view_is) (
       (λ yes. let own = c.is_coded.ensures.0 yes in
           own_from {X = g.row.M.Denot} _ _ _ _ _ _ _ taken.1 refl own.0 own.1

@@ -1,5 +1,4 @@
-use Rattle.std.proofs.Common.{sym, ◌∙◌}
-use Rattle.std.proofs.lemmas.Bool.{leb-false, leb-true}
+use Rattle.std.proofs.Common.{sym, ◌∙◌, leb-false, leb-true}
 use Rattle.book.proofs.Cursors.{first_within}
 use Rattle.book.proofs.Closed.{worked_out}
 use Rattle.book.proofs.InBook.{left_to, none_left_to}

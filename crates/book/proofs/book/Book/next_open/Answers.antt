@@ -1,7 +1,7 @@
 use Rattle.std.proofs.Common.{sym, ◌∙◌}
 use Rattle.book.proofs.Cursors.{first_within}
-use Rattle.book.proofs.InBook.{open_is_later, open_is_next}
-use Rattle.book.proofs.Next.{no_next_expanded, no_next_open}
+use Rattle.book.proofs.Marks.{expanded_from, open_passes}
+use Rattle.book.proofs.Next.{next_from, no_next_later, none_passes}
 use Rattle.book.proofs.book.Book.next_open.Goals as goal
 
 pub steps_to-requires-after_bounds : goal.steps_to-requires-after_bounds
@@ -14,25 +14,27 @@ steps_to-requires-2-after_bounds g c κs within =
 
 pub returns-in_err-first-clause-none : goal.returns-in_err-first-clause-none
 returns-in_err-first-clause-none g c =
-    rw (c.from_residual.ensures, ← c.self.view_is)
-    (no_next_expanded _ _ _ _ c.self.invariant.0.law.law (sym c.first_left.ensures ∙ c.in_err-first.was))
+    rw (c.from_residual.ensures, ← c.self.view_is) (λ i e next.
+    let done = none_passes _ _ (sym c.first_left.ensures ∙ c.in_err-first.was) i e next.entry in
+    cc (next.is_open, expanded_from e.mark done))
 
 pub returns-in_err-open-clause-none : goal.returns-in_err-open-clause-none
 returns-in_err-open-clause-none g c =
-    rw (c.from_residual-in_err-open.ensures, ← c.self.view_is)
-    (no_next_open _ _ _ _ c.self.invariant.0.law.law (sym c.first_open.ensures.first ∙ c.in_err-open.was))
+    rw (c.from_residual-in_err-open.ensures, ← c.self.view_is) (λ i e next.
+    let closed = none_passes _ _ (sym c.first_open.ensures.first ∙ c.in_err-open.was) i e next.entry in
+    cc (open_passes e.mark next.is_open, closed))
 
 pub returns-then-steps_to-clause-next : goal.returns-then-steps_to-clause-next
 returns-then-steps_to-clause-next g c =
     rw (← c.self.view_is)
-    (open_is_next c.self.invariant.0 _ _ _ _ (sym c.first_left.ensures ∙ c.in_ok-first.was)
+    (next_from _ _ _ _ c.self.invariant.0.law.law _ _ (sym c.first_left.ensures ∙ c.in_ok-first.was)
     (sym c.first_open.ensures.first ∙ c.in_ok-open.was)
     (rw (← c.self.view_is) at c.steps_to-2.ensures) (rw (← c.self.view_is) at c.steps_to.ensures) c.if-steps_to.true)
 
 pub returns-else-steps_to-clause-none : goal.returns-else-steps_to-clause-none
 returns-else-steps_to-clause-none g c =
     rw (← c.self.view_is)
-    (open_is_later c.self.invariant.0 _ _ _ _ (sym c.first_left.ensures ∙ c.in_ok-first.was)
+    (no_next_later _ _ _ _ c.self.invariant.0.law.law _ _ (sym c.first_left.ensures ∙ c.in_ok-first.was)
     (sym c.first_open.ensures.first ∙ c.in_ok-open.was)
     (rw (← c.self.view_is) at c.steps_to-2.ensures) (rw (← c.self.view_is) at c.steps_to.ensures) c.if-steps_to.false)
 

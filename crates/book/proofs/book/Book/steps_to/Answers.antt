@@ -1,6 +1,6 @@
 use Rattle.std.proofs.Common.{◌++◌, ◌∷◌, [], ◌∙◌, arith, refl, reverse, sym}
 use Rattle.std.proofs.lemmas.List.{length-reverse, length_push}
-use Rattle.book.proofs.InBook.{at_start, earlier_origin, one_back, way_leads_to}
+use Rattle.book.proofs.Ways.{earlier_origin, way_back, way_ends, way_run}
 use Rattle.book.proofs.book.Book.steps_to.Goals as goal
 
 pub loop-origin-init : goal.loop-origin-init
@@ -11,15 +11,15 @@ origin-requires g c = rw (← c.self.view_is) at c.loop-origin.invariant.0
 
 pub loop-origin-smaller : goal.loop-origin-smaller
 loop-origin-smaller g c =
-    earlier_origin c.self.invariant.0 _ c.self.view_is c.loop-origin.at c.args.id c.loop-origin.invariant.2.0 _
-    c.origin.ensures _ c.in-Some.is
+    earlier_origin _ _ _ _ c.self.invariant.0.law.law c.loop-origin.at c.origin.ensures _ c.in-Some.is
 
 pub loop-origin-preserved : goal.loop-origin-preserved
 loop-origin-preserved g c =
     let noted = c.loop-origin.invariant.2 in
     let back =
-    one_back c.self.invariant.0 _ c.self.view_is c.loop-origin.at c.args.id noted.0 _ c.origin.ensures _ c.in-Some.is
-    noted.2 in (
+    way_back _ _ _ _ c.self.invariant.0.law.law c.loop-origin.at c.origin.ensures c.args.id noted.0 _ c.in-Some.is
+    (rw (← c.self.view_is) at noted.2) in
+    rw (← c.self.view_is) (
       back.0,
       omega (arith, loop-origin-smaller g c, c.loop-origin.invariant.1),
       (
@@ -33,7 +33,9 @@ pub returns : goal.returns
 returns g c =
     let noted = c.loop-origin.invariant.2 in
     let way =
-    at_start c.self.invariant.0 _ c.self.view_is c.loop-origin.at c.args.id (reverse noted.0) _ c.origin.ensures
-    c.in_default.is noted.2 in
-    let leads = way_leads_to c.self.invariant.0 _ c.self.view_is (reverse noted.0) c.args.id c.requires way in
-    (leads.0, leads.1, sym leads.3 ∙ length-reverse noted.0 ∙ noted.1)
+    way_ends _ _ _ _ c.self.invariant.0.law.law c.loop-origin.at c.origin.ensures c.args.id (reverse noted.0)
+    c.in_default.is (rw (← c.self.view_is) at noted.2) in
+    let leads =
+    way_run _ _ _ _ c.self.invariant.0.law.law c.self.invariant.0.machine (reverse noted.0) c.args.id
+    (rw (← c.self.view_is) at c.requires) way in
+    rw (← c.self.view_is) (leads.0, leads.1, sym leads.3 ∙ length-reverse noted.0 ∙ noted.1)

@@ -1,11 +1,11 @@
-use Rattle.std.proofs.Common.{◌-◌, arith}
+use Rattle.std.proofs.Common.{◌-◌, arith, refl}
 use Rattle.std.specs.List.{range_with_len}
-use Rattle.book.specs.declared.entry.Mark.TheVariants.{Taken}
+use Rattle.book.specs.Entries.{Taken}
 use Rattle.book.specs.Books.{machine_in}
-use Rattle.book.proofs.InBook.{layer_given, layer_taken, layer_there, states_bounded, states_fit}
+use Rattle.book.proofs.InBook.{layer_taken, states_bounded, states_fit}
 use Rattle.book.proofs.Labels.{known_marks}
 use Rattle.book.proofs.Cursors.{first_within}
-use Rattle.book.proofs.Ranges.{IsLayerAt}
+use Rattle.book.proofs.Ranges.{IsLayerAt, layer_at, takes_layer}
 use Rattle.book.proofs.book.Book.take_layer.Given.{Over}
 use Rattle.book.proofs.book.Book.take_layer.Goals.{After-first_above-end}
 use Rattle.book.proofs.book.Book.take_layer.Goals as goal
@@ -15,27 +15,26 @@ steps_to-requires-after_bounds g c κs within = first_within _ _ _ c.in-Some.ens
 
 -- the layer that is taken
 layer : (g : Over) (c : After-first_above-end g)
-    → IsLayerAt (machine_in g.M.Machine.rules c.args.self.now).steps c.self.inside.table.entries c.in-Some.start
+    → IsLayerAt (machine_in g.M.Machine.rules c.args.self.now).steps c.args.self.now.entries c.in-Some.start
     c.first_above-end.result
 layer g c =
+    let start = c.in-Some.ensures in
     let end = c.first_above-end.ensures in
-    layer_there c.self.invariant.0 c.self.view_is c.in-Some.ensures.next c.in-Some.ensures.open c.in-Some.ensures.above
-    (rw (← c.self.view_is) at c.steps_to.ensures) end.below end.above end.within
+    layer_at start.next start.open start.above c.steps_to.ensures end.below end.above end.within
 
 pub invariant_of-self : goal.invariant_of-self
 invariant_of-self g c =
     rw c.mark_range_taken.ensures (
-      layer_taken c.self.invariant.0 (layer g (goal.at.invariant_of-self g c).After-first_above-end),
+      layer_taken c.self.invariant.0
+          (rw (← c.self.view_is) at (layer g (goal.at.invariant_of-self g c).After-first_above-end)),
       known_marks _ c.self.inside.table (range_with_len c.in-Some.start (c.first_above-end.result - c.in-Some.start))
           Taken c.self.invariant.1,
     )
 
 pub returns-clause-taken : goal.returns-clause-taken
 returns-clause-taken g c =
-    rw (← c.self.view_is)
-    (layer_given c.self.invariant.0 (layer g (goal.at.returns-clause-taken g c).After-first_above-end)
-    c.in_ok-layer.layer.items c.in_ok-layer.ensures.numbers
-    (rw (← c.self.view_is) at c.in_ok-layer.ensures.states) _ c.mark_range_taken.ensures)
+    takes_layer (layer g (goal.at.returns-clause-taken g c).After-first_above-end) _ c.in_ok-layer.layer.items
+    c.in_ok-layer.ensures.numbers c.in_ok-layer.ensures.states (rw (c.mark_range_taken.ensures, ← c.self.view_is) refl)
 
 pub returns-clause-fits : goal.returns-clause-fits
 returns-clause-fits g c =

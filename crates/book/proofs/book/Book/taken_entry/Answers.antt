@@ -1,7 +1,9 @@
-use Rattle.std.proofs.Common.{◌≡◌, ◌∙◌}
-use Rattle.book.specs.Entries.{IsTaken}
+use Rattle.std.proofs.Common.{◌≡◌, ap, arith, refl, sym, ◌∙◌}
+use Rattle.std.proofs.lemmas.Option.{same_Some}
+use Rattle.book.specs.Entries.{Entry, IsTaken}
 use Rattle.book.specs.Labels.{label_by}
-use Rattle.book.proofs.EntryLabels.{finding_there, label_there, taken_of}
+use Rattle.book.proofs.EntryLabels.{label_there}
+use Rattle.book.proofs.InBook.{state_bounded}
 use Rattle.book.proofs.book.Book.taken_entry.Given.{Over}
 use Rattle.book.proofs.book.Book.taken_entry.Goals.{After-finding}
 use Rattle.book.proofs.book.Book.taken_entry.Goals as goal
@@ -16,14 +18,25 @@ its g c =
       taken,
       c.in_ok-label.ensures
           ∙ label_there _ c.self.inside.table c.self.invariant.1 c.args.id taken.0 taken.1 _ c.label.ensures,
-      c.finding.ensures ∙ finding_there c.self.inside.table.entries c.args.id _ _ c.entry.ensures taken.1,
+      c.finding.ensures ∙ ap (λ (x : Entry _). x.finding) (same_Some _ _ (sym c.entry.ensures ∙ taken.1)),
     )
 
 pub invariant_of-result : goal.invariant_of-result
 invariant_of-result g c =
     let its = its g (goal.at.invariant_of-result g c).After-finding in
-    taken_of g.M.Machine.rules g.M.Encode.own_code g.M.Encode.form_code g.M.Machine.form_of c.self.invariant.0
-    c.args.id _ its.0.1 _ (rw (← c.self.view_is) at c.requires) _ its.1 _ its.2
+    let law = c.self.invariant.0.law in
+    let program = rw (← c.self.view_is) at c.requires in
+    record {
+      state = its.0.0.state;
+      fits = simp program (law.law.fit c.args.id its.0.0 its.0.1);
+      bounded = omega (
+        arith,
+        law.limit,
+        state_bounded c.self.invariant.0 c.args.id its.0.0.state (its.0.0, its.0.1, refl),
+      );
+      label = sym its.1;
+      finding = simp (program, its.2) (law.law.findings c.args.id its.0.0 its.0.1);
+    }
 
 pub returns-clause-entry : goal.returns-clause-entry
 returns-clause-entry g c =

@@ -1,9 +1,8 @@
 -- The steps are labelled one after the other.
-use Rattle.std.proofs.Common.{◌≡◌, ◌<◌, ◌+◌, ◌++◌, ◌∷◌, [], ℕ, List, length, map, take, get_or, refl}
-use Rattle.std.proofs.Common.{arith, ◌∙◌}
+use Rattle.std.proofs.Common.{◌≡◌, ◌<◌, ◌+◌, ◌++◌, ◌∷◌, [], ℕ, List, length, map, take, get_or, refl, arith, ◌∙◌}
 use Rattle.std.proofs.lemmas.List.{map_push, take_more}
 use Rattle.std.proofs.lemmas.Option.{slice_get_read}
-use Rattle.book.specs.declared.successor.Successor.{Successor}
+use Rattle.book.specs.Entries.{Successor}
 use Rattle.book.specs.Labels.{label_by, labelled}
 use Rattle.book.proofs.expansion.Expansion.labelled.Goals as goal
 

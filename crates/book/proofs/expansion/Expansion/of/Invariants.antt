@@ -1,5 +1,4 @@
-use Rattle.std.proofs.Common.{◌≤◌}
-use Rattle.std.specs.Prelude.{vec_len, vec_capacity}
+use Rattle.std.proofs.Common.{◌≤◌, vec_len, vec_capacity}
 use Rattle.replay.specs.Findings.{machine_of, IsFindingOf}
 use Rattle.book.specs.Law.{IsExpansion}
 use Rattle.book.proofs.expansion.Expansion.of.Given as goal

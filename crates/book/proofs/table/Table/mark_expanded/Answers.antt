@@ -1,4 +1,4 @@
-use Rattle.book.specs.declared.entry.Mark.TheVariants.{Expanded}
+use Rattle.book.specs.Entries.{Expanded}
 use Rattle.book.specs.Slots.{entries_of}
 use Rattle.book.proofs.EntryLemmas.{length-with_mark}
 use Rattle.book.proofs.SlotLemmas.{length-entries}
@@ -7,24 +7,18 @@ use Rattle.book.proofs.table.Table.mark_expanded.Goals as goal
 
 pub first_left_from-self-inside-requires-clause-before : goal.first_left_from-self-inside-requires-clause-before
 first_left_from-self-inside-requires-clause-before g c =
-    let s = c.self.inside in
-    rw c.mark_at.ensures.entries
-    (still_expanded (entries_of s.slots.entries) s.next_open s.first_left s.fault c.self.invariant c.args.index)
+    rw c.mark_at.ensures.entries (still_expanded c.self.invariant c.args.index)
 
 pub first_left_from-self-inside-requires-clause-within : goal.first_left_from-self-inside-requires-clause-within
-first_left_from-self-inside-requires-clause-within g c =
-    let s = c.self.inside in
-    rw (
-      ← length-entries c.mark_at.new.slots.entries,
-      c.mark_at.ensures.entries,
-      length-with_mark (entries_of s.slots.entries) c.args.index Expanded,
-    )
+first_left_from-self-inside-requires-clause-within g c = rw (
+  ← length-entries c.mark_at.new.slots.entries,
+  c.mark_at.ensures.entries,
+  length-with_mark (entries_of c.self.inside.slots.entries) c.args.index Expanded,
+)
     c.self.invariant.left.within
 
 pub invariant_of-self : goal.invariant_of-self
 invariant_of-self g c =
-    let s = c.self.inside in
     rw c.mark_at.ensures.entries
-    (cursors_expanded (entries_of s.slots.entries) s.next_open s.first_left s.fault c.self.invariant c.args.index
-    (rw (← c.self.view_is) at c.requires) c.first_left_from-self-inside.result
-    (rw c.mark_at.ensures.entries at c.first_left_from-self-inside.ensures))
+    (cursors_expanded c.self.invariant c.args.index (rw (← c.self.view_is) at c.requires)
+    c.first_left_from-self-inside.result (rw c.mark_at.ensures.entries at c.first_left_from-self-inside.ensures))

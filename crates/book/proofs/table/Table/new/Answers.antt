@@ -1,6 +1,5 @@
 use Rattle.std.proofs.Common.{◌≡◌, refl, None, Some, cond, sym, ◌∙◌}
-use Rattle.book.specs.declared.entry.Mark.TheVariants.{Open}
-use Rattle.book.specs.Entries.{Entry}
+use Rattle.book.specs.Entries.{Open, Entry}
 use Rattle.replay.specs.Findings.{is_sound}
 use Rattle.book.proofs.Cursors.{cursors_one, fault_of_one}
 use Rattle.book.proofs.table.Table.new.Goals as goal
