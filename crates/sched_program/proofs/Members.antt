@@ -3,7 +3,7 @@ use Rattle.std.proofs.Common.{◌≡◌, ◌≢◌, ℕ, ◌≤◌, List, [], �
 use Rattle.std.proofs.Common.{AllPairs, Bool, Option, true, false, MatchBool, codes}
 use Rattle.std.proofs.lemmas.List.Sums.{sum-map}
 use Rattle.std.specs.List.{AllByRecursion}
-use Rattle.serde_json.specs.Data.{Data, Members, unsigned, number, object}
+use Rattle.serde_json.specs.Data.{Data, Members, object}
 use Rattle.sched_program.specs.declared.reader.OpWord.{OpWord}
 use Rattle.sched_program.specs.declared.reader.OpWord.TheVariants.{Insert}
 use Rattle.sched_program.specs.declared.operation.Op.{Op}
@@ -27,7 +27,7 @@ keys_bounded_within value bounded =
 
 -- a value is one key at most
 pub same_key : IsUnique IsKey
-same_key value a b is also = let e : number (unsigned a) ≡ number (unsigned b) = sym is.0 ∙ also.0 in cc
+same_key value a b is also = cc (is.0, also.0)
 
 -- a list has one number of items
 pub same_counted : IsUnique IsListOfCount
