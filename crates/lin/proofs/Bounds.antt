@@ -16,7 +16,8 @@ use Rattle.sched_program.specs.Program.{Program, IsWithinLimits, op_at}
 use Rattle.sched_program.specs.History.{History, reply}
 use Rattle.lin.specs.Keys.{Keys, keys_of, keys_after, reply_on}
 use Rattle.lin.specs.Linearization.{GivesReplies, IsLinearization}
-use Rattle.lin.proofs.Lists.{IsSomeAnd-value, Contains-found}
+use Rattle.std.proofs.lemmas.Map.Views.{Contains-from_any}
+use Rattle.lin.proofs.Lists.{IsSomeAnd-value}
 use Rattle.lin.proofs.Names.{same_name_self, same_name-is, same_name_laws}
 
 -- the names of the operations of these threads, of which the first has this number
@@ -78,5 +79,5 @@ module _ (program : Program) where
       let fewer : length order ≤ length names =
       length-le_from_is_member same_name_laws order names distinct
       (λ a among. All-contains (λ b. list_any (same_name b) names ≡ true) order a named
-      (Contains-found (same_name a) order a (λ b same. sym (same_name-is a b same)) among)) in
+      (Contains-from_any same_name-is a order among)) in
       omega (arith, limits.total, names_count 0 program.threads)
