@@ -26,14 +26,15 @@ use Rattle.clap.specs.declared.error.kind.ErrorKind.{ErrorKind}
 use Rattle.clap.specs.declared.parser.matches.ValueSource.{ValueSource}
 use Rattle.clap.specs.declared.parser.matches.ValueSource.TheVariants.{DefaultValue, CommandLine}
 
--- the row holds a value of the argument, which its parser takes
-pub record IsFilled (a : Rule) (r : Row) : Type 0 where
-  pub reading : r.reading ≡ reading_by a
-  pub text : Text
-  pub first : slice_get r.values 0 ≡ Some text
-  pub passes : value_passes a text ≡ true
+-- the values begin with one that the argument's parser takes
+abbrev pub Begins : Rule → List Text → Type 0
+Begins a values = (text : Text) × (slice_get values 0 ≡ Some text) × (value_passes a text ≡ true)
 
--- if the row is of an argument that is set, it holds such a value
+-- the row holds such values of the argument
+abbrev pub IsFilled : Rule → Row → Type 0
+IsFilled a r = (r.reading ≡ reading_by a) × Begins a r.values
+
+-- if the row is of an argument that is set, it is filled
 abbrev pub Suits : List Rule → Row → Type 0
 Suits c r = (a : Rule) → arg_by_id c r.id ≡ Some a → action_of a ≡ action.Set → IsFilled a r
 
@@ -87,9 +88,8 @@ none_unless : (b : Bool) (k : ErrorKind) → cond b [] (k ∷ []) ≡ [] → b �
 none_unless true k h = refl
 none_unless false k h = absurd (cc)
 
-first_passes : (a : Rule) (v : Text) (vs : List Text) → values_fault a (v ∷ vs) ≡ [] → value_passes a v ≡ true
-first_passes a v vs h =
-    none_unless _ _ (none_of (value_kinds a.ignore_case (parser_of_value a.parser) v) _ h).0
+begins : (a : Rule) (v : Text) (vs : List Text) → values_fault a (v ∷ vs) ≡ [] → Begins a (v ∷ vs)
+begins a v vs h = (v, refl, none_unless _ _ (none_of (value_kinds a.ignore_case (parser_of_value a.parser) v) _ h).0)
 
 -- ---- a change of one row
 
@@ -110,42 +110,24 @@ first_stays : (xs ys : List Text) (text : Text) → slice_get xs 0 ≡ Some text
 first_stays [] ys text is = absurd (cc)
 first_stays (x ∷ xs) ys text is = is
 
--- a row of the argument suits, if it holds a value where the argument is set
-new_suits : (c : List Rule) (a : Rule) (r : Row) → arg_by_id c a.id ≡ Some a → r.id ≡ a.id
-    → (action_of a ≡ action.Set → IsFilled a r) → Suits c r
-new_suits c a r own same filled b is set =
-    let one : a ≡ b = cc in rw (← one) (filled (ap action_of one ∙ set))
-
 more_suits : (c : List Rule) (r : Row) (more : List Text) (count : Option ℕ) (source : Option ValueSource) → Suits c r
     → Suits c (record r { values = r.values ++ more; count = count; source = source })
 more_suits c r more count source suits a is set =
-    let was = suits a is set in
-    record {
-      reading = was.reading;
-      text = was.text;
-      first = first_stays r.values more was.text was.first;
-      passes = was.passes;
-    }
+    let (reading, (text, first, passes)) = suits a is set in
+    (reading, (text, first_stays r.values more text first, passes))
 
 module _ (c : List Rule) (a : Rule) (own : arg_by_id c a.id ≡ Some a) where
-  -- the values begin with one that the argument's parser takes
-  abbrev BeginsWell : List Text → Type 0
-  BeginsWell values = (text : Text) × (slice_get values 0 ≡ Some text) × (value_passes a text ≡ true)
-
-  new_row : ValueSource → List Text → Option ℕ → Row
+  abbrev new_row : ValueSource → List Text → Option ℕ → Row
   new_row s values count = record { id = a.id; values = values; count = count; source = Some s; reading = reading_by a }
 
   new_row_suits : (s : ValueSource) (values : List Text) (count : Option ℕ)
-      → (action_of a ≡ action.Set → BeginsWell values)
-      → Suits c (new_row s values count)
-  unfolding new_row
-  new_row_suits s values count value = new_suits c a (new_row s values count) own refl (λ set.
-      let v = value set in record { reading = refl; text = v.0; first = v.1; passes = v.2 })
+      → (action_of a ≡ action.Set → Begins a values) → Suits c (new_row s values count)
+  new_row_suits s values count value b is set =
+      let one : a ≡ b = cc in rw (← one) (refl, value (ap action_of one ∙ set))
 
   pub values_suit : (s : ValueSource) (values : List Text) (rows : List Row)
-      → (action_of a ≡ action.Set → BeginsWell values)
-      → Suit c rows → Suit c (with_values a.id (reading_by a) s values rows)
-  unfolding new_row
+      → (action_of a ≡ action.Set → Begins a values) → Suit c rows
+      → Suit c (with_values a.id (reading_by a) s values rows)
   values_suit s values rows value suit =
       changed c a.id (more_values s values) (new_row s values None ∷ []) rows
       (λ r suits. (more_suits c r values r.count (Some (stronger r.source s)) suits, tt {0}))
@@ -153,7 +135,6 @@ module _ (c : List Rule) (a : Rule) (own : arg_by_id c a.id ≡ Some a) where
 
   pub count_suits : (s : ValueSource) (n : ℕ) (rows : List Row) → (action_of a ≡ action.Set → ⊥)
       → Suit c rows → Suit c (with_count a.id (reading_by a) s n rows)
-  unfolding new_row
   count_suits s n rows none suit =
       changed c a.id (new_count s n) (new_row s (count_text n ∷ []) (Some n) ∷ []) rows
       (λ r suits. (more_suits c r (count_text n ∷ []) (Some n) (Some (stronger r.source s)) suits, tt {0}))
@@ -165,18 +146,18 @@ module _ (c : List Rule) (a : Rule) (own : arg_by_id c a.id ≡ Some a) where
 module _ (c : List Rule) (again : Bool) (a : Rule) (regular : IsRegular c a) where
   -- a use of an argument that is set has a first value, which passes
   set_begins : (values : List Text) (rows : List Row) → action_of a ≡ action.Set → use_fault again a values rows ≡ []
-      → BeginsWell c a regular.own (values_or_missing a values)
+      → Begins a (values_or_missing a values)
   set_begins [] rows set none =
       let range = (none_of (range_kinds (unwrap_or_range a.range).start_inclusive (most_values a) 0) _ none).0 in
       let bad = rw (regular.valued set) at range in absurd (cc)
   set_begins (v ∷ vs) rows set none =
       let range = range_kinds (unwrap_or_range a.range).start_inclusive (most_values a) (length (v ∷ vs)) in
       let acts : action_fault action.Set again a (v ∷ vs) rows ≡ [] = rw set at (none_of range _ none).1 in
-      (v, refl, first_passes a v vs (none_of _ (values_fault a (v ∷ vs)) acts).1)
+      begins a v vs (none_of _ (values_fault a (v ∷ vs)) acts).1
 
   -- a use that takes the place of the earlier ones
-  used_once : (values : List Text) (rows : List Row) → (action_of a ≡ action.Set → BeginsWell c a regular.own values)
-      → Suit c rows → Suit c (with_values a.id (reading_by a) CommandLine values (without a.id rows))
+  used_once : (values : List Text) (rows : List Row) → (action_of a ≡ action.Set → Begins a values) → Suit c rows
+      → Suit c (with_values a.id (reading_by a) CommandLine values (without a.id rows))
   used_once values rows begins suit =
       values_suit c a regular.own CommandLine values (without a.id rows) begins
       (without_suits c a regular.own rows suit)
@@ -189,8 +170,7 @@ module _ (c : List Rule) (again : Bool) (a : Rule) (regular : IsRegular c a) whe
   counted_suits (v ∷ vs) rows not_set suit = used_once (v ∷ vs) rows (λ set. absurd (not_set set)) suit
 
   used_as_suits : (x : ArgAction) → action_of a ≡ x → (values : List Text) (rows : List Row)
-      → (x ≡ action.Set → BeginsWell c a regular.own values) → Suit c rows
-      → Suit c (used_as x a.id (reading_by a) values rows)
+      → (x ≡ action.Set → Begins a values) → Suit c rows → Suit c (used_as x a.id (reading_by a) values rows)
   used_as_suits action.Set is values rows value suit = used_once values rows (λ set. value refl) suit
   used_as_suits action.SetTrue is values rows value suit = used_once values rows (λ set. absurd (cc)) suit
   used_as_suits action.SetFalse is values rows value suit = used_once values rows (λ set. absurd (cc)) suit
@@ -236,8 +216,8 @@ module _ (c : List Rule) (again : Bool) (regular : AreRegular c) where
       given [] none = suit
       given (v ∷ vs) fault =
           let none : given_default_fault a (v ∷ vs) ≡ [] = rw (not_empty v vs) at fault in
-          let passes = first_passes a v vs (none_of (request_kinds (action_of a)) (values_fault a (v ∷ vs)) none).1 in
-          values_suit c a own.own DefaultValue (v ∷ vs) rows (λ set. (v, refl, passes)) suit
+          let first = begins a v vs (none_of (request_kinds (action_of a)) (values_fault a (v ∷ vs)) none).1 in
+          values_suit c a own.own DefaultValue (v ∷ vs) rows (λ set. first) suit
 
   pub defaults_suit : (rules : List Rule) (rows : List Row) → AllByRecursion (IsRegular c) rules
       → defaults_fault rows rules ≡ []
@@ -325,8 +305,8 @@ required_given rows rules i a none is required =
 
 -- the row of an argument that is set holds a value of it
 pub filled : (c : List Rule) (rows : List Row) (i : Text) (a : Rule) → Suit c rows → has_row i rows ≡ true
-    → arg_by_id c i ≡ Some a
-    → action_of a ≡ action.Set → (r : Row) × (find (λ x. bytes_eq x.id i) rows ≡ Some r) × IsFilled a r
+    → arg_by_id c i ≡ Some a → action_of a ≡ action.Set
+    → (r : Row) × (find (λ x. bytes_eq x.id i) rows ≡ Some r) × IsFilled a r
 filled c rows i a suit has is set =
     there (find (λ x. bytes_eq x.id i) rows) refl (sym (any_is_found (λ x. bytes_eq x.id i) rows) ∙ has)
   where

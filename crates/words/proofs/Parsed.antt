@@ -29,6 +29,7 @@ use Rattle.words.proofs.Accepted.{AreRegular, IsRegular, has_default, Suit, defa
 use Rattle.words.proofs.Accepted.{given_has_row, none_of, required_given, settled_suit}
 use Rattle.words.proofs.Entered.{is_help, Stands, walk_stands}
 use Rattle.std.proofs.lemmas.Bool.{or_right}
+use Rattle.std.proofs.Math.Bool.{and-true}
 use Rattle.clap.specs.Kinds.{Kinds, check_kinds}
 use Rattle.clap.specs.Takes.{is_given, value_passes}
 use Rattle.clap.specs.Values.{read_as}
@@ -77,38 +78,6 @@ module _ (s : Shape) (names : SubcommandNames) (words : List Text) (has : Bool) 
     pub no_help : IfSome (walk s.rules names nothing_held words).stopped (λ q. is_help s q.0 ≡ false)
     no_help = stands.stopped
 
-    -- the rows at the end
-    abbrev rows : List Row
-    rows = rows_after s.rules names words
-
-    -- an argument that is set has a value, if it has a row
-    has_value : (id : Text) (a : Rule) → has_row id rows ≡ true → arg_by_id s.rules id ≡ Some a → action_of a ≡ Set
-        → HasValue a id rows
-    has_value id a has is set =
-        let suit : Suit s.rules rows = defaults_suit s.rules s.args_override_self regular s.rules
-        (settled s.rules end).rows regular parts.3
-        (settled_suit s.rules s.args_override_self regular end parts.2 stands.rows) in
-        let (r, found, value) = filled s.rules rows id a suit has is set in record {
-          text = value.text;
-          first = rw found value.first;
-          one = rw found (rw (value.first, value.reading) refl);
-          passes = value.passes;
-        }
-
-    -- an argument that is required, or has a default, has a value
-    pub required_value : s.subcommand_negates_reqs ≡ false → (id : Text) (a : Rule) → arg_by_id s.rules id ≡ Some a
-        → action_of a ≡ Set → a.required ≡ true → HasValue a id rows
-    required_value kept id a is set required =
-        let argument = (none_wanted _ (not has && s.subcommand_required) _ parts.4).1 in
-        let missing : list_any (λ x. x.required && not (is_given x.id rows)) s.rules ≡ false = rw kept at argument in
-        has_value id a (given_has_row id rows (required_given rows s.rules id a missing is required)) is set
-
-    pub default_value : (id : Text) (a : Rule) → arg_by_id s.rules id ≡ Some a → action_of a ≡ Set
-        → has_default id s.rules ≡ true → HasValue a id rows
-    default_value id a is set default =
-        has_value id a (default_given id s.rules (settled s.rules end).rows
-        (or_right (has_row id (settled s.rules end).rows) (has_default id s.rules) default)) is set
-
 -- ---- the subcommand that was met
 
 -- the words after the subcommand's name have no fault, and its matches are these
@@ -124,15 +93,37 @@ passed s words name rows is none =
     let same : rows_at s words ≡ (name, rows) = cc in
     record { words = words; named = sym (ap (λ p. p.0) same); are = sym (ap (λ p. p.1) same); none = none }
 
--- what the matches of such a subcommand hold
+-- what the matches of such a subcommand hold of an argument that is set
 module _ {s : Shape} {name : Text} {rows : List Row} (is : IsPassed s name rows) (regular : AreRegular s.rules)
     (id : Text) (a : Rule) (found : arg_by_id s.rules id ≡ Some a) (set : action_of a ≡ Set) where
+  abbrev last : List Row
+  last = rows_after s.rules [] is.words
+
+  -- it has a value, if it has a row,
+  has_value : has_row id last ≡ true → HasValue a id rows
+  has_value has =
+      let tests = parts s [] is.words false [] is.none in
+      let ended = (walk s.rules [] nothing_held is.words).held in
+      let suit : Suit s.rules last = defaults_suit s.rules s.args_override_self regular s.rules
+      (settled s.rules ended).rows regular tests.3 (settled_suit s.rules s.args_override_self regular ended tests.2
+      (stands s [] is.words false [] is.none regular).rows) in
+      let (r, there, (reading, (text, first, passes))) = filled s.rules last id a suit has found set in
+      rw is.are (record {
+        text = text;
+        first = rw there first;
+        one = rw there (rw (first, reading) refl);
+        passes = passes;
+      })
+
+  -- and so if it is required, or has a default
   required : s.subcommand_negates_reqs ≡ false → a.required ≡ true → HasValue a id rows
   required kept needed =
-      rw is.are (required_value s [] is.words false [] is.none regular kept id a found set needed)
+      let argument = (none_wanted _ s.subcommand_required _ (parts s [] is.words false [] is.none).4).1 in
+      let missing : list_any (λ x. x.required && not (is_given x.id last)) s.rules ≡ false = rw kept at argument in
+      has_value (given_has_row id last (required_given last s.rules id a missing found needed))
 
   defaulted : has_default id s.rules ≡ true → HasValue a id rows
-  defaulted default = rw is.are (default_value s [] is.words false [] is.none regular id a found set default)
+  defaulted default = has_value (default_given id s.rules _ (or_right (has_row id _) (has_default id s.rules) default))
 
   text : s.subcommand_negates_reqs ≡ false → a.required ≡ true → HasText rows id
   text kept needed = let v = required kept needed in (v.text, v.first)
@@ -190,10 +181,6 @@ module _ (choices : Choices) where
 
   -- ---- the subcommand that the words name
 
-  no_and : (b : Bool) → (b && true) ≡ false → b ≡ false
-  no_and true h = h
-  no_and false h = h
-
   -- the words after the name of one of the subcommands have no fault
   abbrev AreNamed : Text → List Row → Type 0
   AreNamed name rows = IsPassed explore_leaf name rows ⊎ IsPassed replay_leaf name rows ⊎ IsPassed check_leaf name rows
@@ -241,7 +228,7 @@ module _ (choices : Choices) where
         go : (o : Option (Text × List Text)) → IfSome o (λ q. is_help all.top q.0 ≡ false)
             → entered all o ≡ Some (name, rows) → entered_fault all o ≡ [] → AreNamed name rows
         go None other is none = absurd (cc)
-        go (Some p) other is none = by_name name rows p (no_and (bytes_eq p.0 (codes "help")) other) is none
+        go (Some p) other is none = by_name name rows p (rw and-true at other) is none
 
   -- ---- what the matches of `explore` hold
 
