@@ -40,7 +40,7 @@ fn keys_after_next(
         (λ next. StandsNext program.now history.now (listed_in listed.now) (keys_in keys) name (keys_in next)) }
 {
     if value_of(history.begun(), name).is_none()
-        || listed.contains(&name)
+        || lists(listed, name)
         || ended_before_any(history, name, listed)
     {
         return None;
