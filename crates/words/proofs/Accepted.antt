@@ -7,8 +7,7 @@ use Rattle.std.specs.Option.{option_map_or}
 use Rattle.std.specs.Str.{bytes_eq}
 use Rattle.std.proofs.lemmas.List.Folds.{list_any-append}
 use Rattle.clap.specs.Matches.{count_text}
-use Rattle.std.proofs.lemmas.Bool.{and_parts, cases_Bool, cond_both, false≢true, not-false, or_cases, or_parts}
-use Rattle.std.proofs.lemmas.Bool.{or_right}
+use Rattle.std.proofs.lemmas.Bool.{and_parts, cases_Bool, cond_both, not-false, or_cases, or_parts}
 use Rattle.std.proofs.lemmas.Bool.Decides.{nat_tests}
 use Rattle.std.proofs.lemmas.Slice.Eq.{bytes_eq-Decides}
 use Rattle.clap.specs.Faults.{action_fault, default_fault, defaults_fault, given_default_fault, settle_fault, use_fault}
@@ -42,9 +41,9 @@ abbrev pub Suit : List Rule → List Row → Type 0
 Suit c rows = AllByRecursion (Suits c) rows
 
 -- the argument is the first of its id, and where it is set, a use of it has a value
-pub record IsRegular (c : List Rule) (a : Rule) : Type 0 where
-  pub own : arg_by_id c a.id ≡ Some a
-  pub valued : action_of a ≡ action.Set → (unwrap_or_range a.range).start_inclusive ≡ 1
+abbrev pub IsRegular : List Rule → Rule → Type 0
+IsRegular c a = (arg_by_id c a.id ≡ Some a)
+    × (action_of a ≡ action.Set → (unwrap_or_range a.range).start_inclusive ≡ 1)
 
 abbrev pub AreRegular : List Rule → Type 0
 AreRegular c = AllByRecursion (IsRegular c) c
@@ -149,7 +148,7 @@ module _ (c : List Rule) (again : Bool) (a : Rule) (regular : IsRegular c a) whe
       → Begins a (values_or_missing a values)
   set_begins [] rows set none =
       let range = (none_of (range_kinds (unwrap_or_range a.range).start_inclusive (most_values a) 0) _ none).0 in
-      let bad = rw (regular.valued set) at range in absurd (cc)
+      let bad = rw (regular.1 set) at range in absurd (cc)
   set_begins (v ∷ vs) rows set none =
       let range = range_kinds (unwrap_or_range a.range).start_inclusive (most_values a) (length (v ∷ vs)) in
       let acts : action_fault action.Set again a (v ∷ vs) rows ≡ [] = rw set at (none_of range _ none).1 in
@@ -159,14 +158,14 @@ module _ (c : List Rule) (again : Bool) (a : Rule) (regular : IsRegular c a) whe
   used_once : (values : List Text) (rows : List Row) → (action_of a ≡ action.Set → Begins a values) → Suit c rows
       → Suit c (with_values a.id (reading_by a) CommandLine values (without a.id rows))
   used_once values rows begins suit =
-      values_suit c a regular.own CommandLine values (without a.id rows) begins
-      (without_suits c a regular.own rows suit)
+      values_suit c a regular.0 CommandLine values (without a.id rows) begins
+      (without_suits c a regular.0 rows suit)
 
   counted_suits : (values : List Text) (rows : List Row) → (action_of a ≡ action.Set → ⊥) → Suit c rows
       → Suit c (counted a.id (reading_by a) values rows)
   counted_suits [] rows not_set suit =
-      count_suits c a regular.own CommandLine (min (count_of a.id rows + 1) 255) (without a.id rows) not_set
-      (without_suits c a regular.own rows suit)
+      count_suits c a regular.0 CommandLine (min (count_of a.id rows + 1) 255) (without a.id rows) not_set
+      (without_suits c a regular.0 rows suit)
   counted_suits (v ∷ vs) rows not_set suit = used_once (v ∷ vs) rows (λ set. absurd (not_set set)) suit
 
   used_as_suits : (x : ArgAction) → action_of a ≡ x → (values : List Text) (rows : List Row)
@@ -175,7 +174,7 @@ module _ (c : List Rule) (again : Bool) (a : Rule) (regular : IsRegular c a) whe
   used_as_suits action.SetTrue is values rows value suit = used_once values rows (λ set. absurd (cc)) suit
   used_as_suits action.SetFalse is values rows value suit = used_once values rows (λ set. absurd (cc)) suit
   used_as_suits action.Append is values rows value suit =
-      values_suit c a regular.own CommandLine values rows (λ set. absurd (cc)) suit
+      values_suit c a regular.0 CommandLine values rows (λ set. absurd (cc)) suit
   used_as_suits action.Count is values rows value suit = counted_suits values rows (λ set. (cc)) suit
   used_as_suits x is values rows value suit = suit
 
@@ -217,7 +216,7 @@ module _ (c : List Rule) (again : Bool) (regular : AreRegular c) where
       given (v ∷ vs) fault =
           let none : given_default_fault a (v ∷ vs) ≡ [] = rw (not_empty v vs) at fault in
           let first = begins a v vs (none_of (request_kinds (action_of a)) (values_fault a (v ∷ vs)) none).1 in
-          values_suit c a own.own DefaultValue (v ∷ vs) rows (λ set. first) suit
+          values_suit c a own.0 DefaultValue (v ∷ vs) rows (λ set. first) suit
 
   pub defaults_suit : (rules : List Rule) (rows : List Row) → AllByRecursion (IsRegular c) rules
       → defaults_fault rows rules ≡ []
@@ -239,9 +238,6 @@ at_row_last id change missing (r ∷ rs) none =
     let each = or_parts (bytes_eq r.id id) (has_row id rs) none in
     rw each.0 (ap (λ l. r ∷ l) (at_row_last id change missing rs each.1))
 
-has_id : (id : Text) → bytes_eq id id ≡ true
-has_id id = (bytes_eq-Decides id id).1 refl
-
 -- the argument has this id, and default values
 abbrev pub defaults_to : Text → Rule → Bool
 defaults_to i a = bytes_eq a.id i && not (is_empty a.defaults)
@@ -253,28 +249,17 @@ default_row i a rows has =
     cond_both (has_row a.id rows) rows (default_rows a.id (reading_by a) a.defaults rows) (λ l. has_row i l ≡ true)
     (λ there. elim (or_cases (has_row i rows) (defaults_to i a) has) [
       | inl here ↦ here
-      | inr own ↦ rw (← same (not (is_empty a.defaults)) own) there
+      | inr own ↦ rw (← (bytes_eq-Decides a.id i).0 (and_parts (bytes_eq a.id i) _ own).0) there
     ])
     (λ none. made none a.defaults has)
   where
-    same : (b : Bool) → (bytes_eq a.id i && b) ≡ true → a.id ≡ i
-    same b own = (bytes_eq-Decides a.id i).0 (and_parts (bytes_eq a.id i) b own).0
-
     made : has_row a.id rows ≡ false → (values : List Text)
         → (has_row i rows || (bytes_eq a.id i && not (is_empty values))) ≡ true
         → has_row i (default_rows a.id (reading_by a) values rows) ≡ true
-    made none [] has = elim (or_cases (has_row i rows) (bytes_eq a.id i && false) has) [
-      | inl here ↦ here
-      | inr own ↦ absurd (false≢true (and_parts (bytes_eq a.id i) false own).1)
-    ]
+    made none [] has = grind (arith, cases_Bool (has_row i rows), cases_Bool (bytes_eq a.id i))
     made none (v ∷ vs) has =
-        rw (at_row_last a.id (more_values DefaultValue (v ∷ vs)) _ rows none)
-        (list_any-append (λ r. bytes_eq r.id i) rows _
-        ∙ (elim (or_cases (has_row i rows) (bytes_eq a.id i && not (is_empty (v ∷ vs))) has) [
-          | inl here ↦ rw here
-          | inr own ↦ or_right (has_row i rows) (bytes_eq a.id i || false)
-              (rw (← same (not (is_empty (v ∷ vs))) own, has_id a.id))
-        ]))
+        rw (at_row_last a.id (more_values DefaultValue (v ∷ vs)) _ rows none, list_any-append (λ r. bytes_eq r.id i) rows)
+        (grind (arith, cases_Bool (has_row i rows), cases_Bool (bytes_eq a.id i)))
 
 -- an argument of this id has default values
 abbrev pub has_default : Text → List Rule → Bool

@@ -6,7 +6,6 @@ use Rattle.std.specs.Option.{option_map_or}
 use Rattle.std.specs.Str.{bytes_eq}
 use Rattle.std.specs.Str.Parse.{digits_value, without_leading_plus}
 use Rattle.std.proofs.lemmas.Slice.Eq.{bytes_eq-Decides}
-use Rattle.clap.specs.Facts.{unwrap_or_range}
 use Rattle.clap.specs.Faults.{entered_fault, fault_of, level_fault, check_fault, defaults_fault, settle_fault}
 use Rattle.clap.specs.Faults.{walk_fault}
 use Rattle.clap.specs.Simple.{App, Shape, argument_words, built, built_leaf, entered, help_shape, inherited}
@@ -25,11 +24,11 @@ use Rattle.options.specs.Settings.{Settings}
 use Rattle.words.specs.Command as line
 use Rattle.words.specs.Command.{AreMerges, Choices, command_line}
 use Rattle.words.specs.Reading.{AreRead, HasText, MergeIs, NumberIs, OptionsAre}
-use Rattle.words.proofs.Accepted.{AreRegular, IsRegular, has_default, Suit, default_given, defaults_suit, filled}
+use Rattle.words.proofs.Accepted.{AreRegular, has_default, Suit, default_given, defaults_suit, filled}
 use Rattle.words.proofs.Accepted.{given_has_row, none_of, required_given, settled_suit}
 use Rattle.words.proofs.Entered.{is_help, Stands, walk_stands}
-use Rattle.std.proofs.lemmas.Bool.{or_right}
-use Rattle.std.proofs.Math.Bool.{and-true}
+use Rattle.std.proofs.lemmas.Bool.{or_cases, or_right}
+use Rattle.std.proofs.Math.Bool.{and-true, or-false}
 use Rattle.clap.specs.Kinds.{Kinds, check_kinds}
 use Rattle.clap.specs.Takes.{is_given, value_passes}
 use Rattle.clap.specs.Values.{read_as}
@@ -157,27 +156,31 @@ module _ (choices : Choices) where
   check_leaf = leaf line.check.top
 
   regular : AreRegular all.top.rules
-  regular = (record { own = refl; valued = λ set. absurd (cc) }, tt)
-
-  -- an argument with one value, and a flag, before others
-  valued : {c : List Rule} {a : Rule} {Others : Type 0} → arg_by_id c a.id ≡ Some a
-      → (unwrap_or_range a.range).start_inclusive ≡ 1 → Others → IsRegular c a × Others
-  valued own one others = (record { own = own; valued = λ set. one }, others)
-
-  flag : {c : List Rule} {a : Rule} {Others : Type 0} → arg_by_id c a.id ≡ Some a → (action_of a ≡ Set → ⊥) → Others
-      → IsRegular c a × Others
-  flag own not others = (record { own = own; valued = λ set. absurd (not set) }, others)
+  regular = ((refl, λ set. cc), tt)
 
   explore_regular : AreRegular explore_leaf.rules
-  explore_regular =
-      valued refl refl (valued refl refl (valued refl refl (valued refl refl (valued refl refl
-      (flag refl (λ set. cc) (valued refl refl (flag refl (λ set. cc) tt)))))))
+  explore_regular = (
+    (refl, λ set. refl),
+    (
+      (refl, λ set. refl),
+      (
+        (refl, λ set. refl),
+        (
+          (refl, λ set. refl),
+          (
+            (refl, λ set. refl),
+            ((refl, λ set. cc), ((refl, λ set. refl), ((refl, λ set. cc), tt))),
+          ),
+        ),
+      ),
+    ),
+  )
 
   replay_regular : AreRegular replay_leaf.rules
-  replay_regular = valued refl refl (valued refl refl (flag refl (λ set. cc) tt))
+  replay_regular = ((refl, λ set. refl), ((refl, λ set. refl), ((refl, λ set. cc), tt)))
 
   check_regular : AreRegular check_leaf.rules
-  check_regular = valued refl refl (valued refl refl (flag refl (λ set. cc) tt))
+  check_regular = ((refl, λ set. refl), ((refl, λ set. refl), ((refl, λ set. cc), tt)))
 
   -- ---- the subcommand that the words name
 
@@ -239,13 +242,12 @@ module _ (choices : Choices) where
       let among : list_any (λ t. bytes_eq t v.text) (codes "exact" ∷ codes "names" ∷ []) ≡ true =
       ap (list_any (λ t. bytes_eq t v.text)) (sym merges)
       ∙ (sym (list_any-map (λ t. bytes_eq t v.text) (λ c. c.now) choices.now) ∙ passes) in
-      go (bytes_eq (codes "exact") v.text) (bytes_eq (codes "names") v.text) refl refl among
-    where
-      go : (e n : Bool) → bytes_eq (codes "exact") v.text ≡ e → bytes_eq (codes "names") v.text ≡ n
-          → (e || (n || false)) ≡ true → (m : Merge) × MergeIs rows m
-      go true n exact names among = (merge.Exact, cc (v.first, (bytes_eq-Decides (codes "exact") v.text).0 exact))
-      go false true exact names among = (merge.Names, cc (v.first, (bytes_eq-Decides (codes "names") v.text).0 names))
-      go false false exact names among = absurd (cc)
+      elim (or_cases (bytes_eq (codes "exact") v.text) (bytes_eq (codes "names") v.text || false) among) [
+        | inl exact ↦ (merge.Exact, cc (v.first, (bytes_eq-Decides (codes "exact") v.text).0 exact))
+        | inr rest ↦ (
+            let names : bytes_eq (codes "names") v.text ≡ true = rw or-false at rest in
+            (merge.Names, cc (v.first, (bytes_eq-Decides (codes "names") v.text).0 names)))
+      ]
 
   explore_options : {name : Text} (rows : List Row) → IsPassed explore_leaf name rows → AreMerges choices
       → (settings : Settings) × OptionsAre rows settings
