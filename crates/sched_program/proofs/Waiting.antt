@@ -1,6 +1,6 @@
 -- What the operations of a text wait for, and where that is not within the limits.
 use Rattle.std.proofs.Common.{◌≡◌, ℕ, ◌<◌, ◌≤◌, List, [], length, get_or, slice_get, arith, sym}
-use Rattle.std.proofs.Common.{ap, ◌∙◌, inl, inr, Option, Some, None, IfSome, IfNone, Result, Ok, Err, IfOk, All, codes}
+use Rattle.std.proofs.Common.{ap, ◌∙◌, Option, Some, None, IfSome, IfNone, Result, Ok, Err, IfOk, All, codes}
 use Rattle.std.proofs.lemmas.Option.{same_Some, slice_get_within, get_or_from_slice_get}
 use Rattle.std.proofs.lemmas.Bool.{cases_lt}
 use Rattle.std.proofs.lemmas.List.{get_or_default, get_or_past}
@@ -58,10 +58,7 @@ listed version known value threads (Err e) is at found none = (tt, tt)
 
 ops_bounded : (threads : List (List Op)) (k : ℕ) → All (λ ops. (1 ≤ length ops) × (length ops ≤ 6)) threads
     → length (get_or threads k []) ≤ 6
-ops_bounded threads k all = elim (cases_lt k (length threads)) [
-  | inl within ↦ (all k [] within).1
-  | inr past ↦ rw (get_or_past threads k [] past) (omega arith)
-]
+ops_bounded threads k all = grind (arith, cases_lt k (length threads), get_or_past threads k [], all k [])
 
 -- the numbers of a turn are small
 pub small_turn : (threads : List (List Op)) (turns : List (List (Option Turn))) (t i : ℕ) (row : List (Option Turn))
