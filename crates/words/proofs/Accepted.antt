@@ -5,6 +5,7 @@ use Rattle.std.specs.Prelude.{fold, find, slice_get}
 use Rattle.std.specs.List.{AllByRecursion, list_any}
 use Rattle.std.specs.Option.{option_map_or}
 use Rattle.std.specs.Str.{bytes_eq}
+use Rattle.std.proofs.ByRecursion.{All-append}
 use Rattle.std.proofs.lemmas.List.Folds.{list_any-append}
 use Rattle.clap.specs.Matches.{count_text}
 use Rattle.std.proofs.lemmas.Bool.{and_parts, cases_Bool, cond_both, not-false, or_cases, or_parts}
@@ -39,6 +40,10 @@ Suits c r = (a : Rule) → arg_by_id c r.id ≡ Some a → action_of a ≡ actio
 
 abbrev pub Suit : List Rule → List Row → Type 0
 Suit c rows = AllByRecursion (Suits c) rows
+
+-- where there is no fault, the rows suit if they did
+abbrev pub Keeps : List Rule → Kinds → List Row → List Row → Type 0
+Keeps c fault old new = fault ≡ [] → Suit c old → Suit c new
 
 -- the argument is the first of its id, and where it is set, a use of it has a value
 abbrev pub IsRegular : List Rule → Rule → Type 0
@@ -92,17 +97,13 @@ begins a v vs h = (v, refl, none_unless _ _ (none_of (value_kinds a.ignore_case 
 
 -- ---- a change of one row
 
-appended : (c : List Rule) (xs ys : List Row) → Suit c xs → Suit c ys → Suit c (xs ++ ys)
-appended c [] ys first rest = rest
-appended c (x ∷ xs) ys first rest = (first.0, appended c xs ys first.1 rest)
-
 changed : (c : List Rule) (id : Text) (change : Row → List Row) (missing rows : List Row)
     → ((r : Row) → Suits c r → Suit c (change r)) → Suit c missing → Suit c rows
     → Suit c (at_row id change missing rows)
 changed c id change missing [] on_change new suit = new
 changed c id change missing (r ∷ rs) on_change new suit =
     cond_both (bytes_eq r.id id) (change r ++ rs) (r ∷ at_row id change missing rs) (Suit c)
-    (λ _. appended c (change r) rs (on_change r suit.0) suit.1)
+    (λ _. All-append (Suits c) (change r) rs (on_change r suit.0) suit.1)
     (λ _. (suit.0, changed c id change missing rs on_change new suit.1))
 
 first_stays : (xs ys : List Text) (text : Text) → slice_get xs 0 ≡ Some text → slice_get (xs ++ ys) 0 ≡ Some text
@@ -178,8 +179,8 @@ module _ (c : List Rule) (again : Bool) (a : Rule) (regular : IsRegular c a) whe
   used_as_suits action.Count is values rows value suit = counted_suits values rows (λ set. (cc)) suit
   used_as_suits x is values rows value suit = suit
 
-  pub used_suits : (values : List Text) (rows : List Row) → use_fault again a values rows ≡ [] → Suit c rows
-      → Suit c (used a values rows)
+  pub used_suits : (values : List Text) (rows : List Row)
+      → Keeps c (use_fault again a values rows) rows (used a values rows)
   used_suits values rows none suit =
       used_as_suits (action_of a) refl (values_or_missing a values) rows (λ set. set_begins values rows set none) suit
 
@@ -189,7 +190,7 @@ not_empty v vs = grind (arith, nat_tests)
 -- ---- what is pending, and the defaults
 
 module _ (c : List Rule) (again : Bool) (regular : AreRegular c) where
-  pub settled_suit : (h : Held) → settle_fault c again h ≡ [] → Suit c h.rows → Suit c (settled c h).rows
+  pub settled_suit : (h : Held) → Keeps c (settle_fault c again h) h.rows (settled c h).rows
   settled_suit h none suit = go h.pending none
     where
       by_id : (o : Option Rule) (id : Text) (values : List Text) → arg_by_id c id ≡ o
@@ -204,8 +205,8 @@ module _ (c : List Rule) (again : Bool) (regular : AreRegular c) where
       go None none = suit
       go (Some q) none = by_id (arg_by_id c q.0) q.0 q.1 refl none
 
-  default_suits : (a : Rule) (rows : List Row) → IsRegular c a → default_fault rows a ≡ [] → Suit c rows
-      → Suit c (with_default rows a)
+  default_suits : (a : Rule) (rows : List Row) → IsRegular c a
+      → Keeps c (default_fault rows a) rows (with_default rows a)
   default_suits a rows own none suit =
       cond_both (has_row a.id rows) rows (default_rows a.id (reading_by a) a.defaults rows) (Suit c) (λ _. suit)
       (λ missing. given a.defaults (rw missing at none))
@@ -219,9 +220,7 @@ module _ (c : List Rule) (again : Bool) (regular : AreRegular c) where
           values_suit c a own.0 DefaultValue (v ∷ vs) rows (λ set. first) suit
 
   pub defaults_suit : (rules : List Rule) (rows : List Row) → AllByRecursion (IsRegular c) rules
-      → defaults_fault rows rules ≡ []
-      → Suit c rows
-      → Suit c (fold with_default rows rules)
+      → Keeps c (defaults_fault rows rules) rows (fold with_default rows rules)
   unfolding defaults_fault
   defaults_suit [] rows own none suit = suit
   defaults_suit (a ∷ rest) rows own none suit =
@@ -258,7 +257,10 @@ default_row i a rows has =
         → has_row i (default_rows a.id (reading_by a) values rows) ≡ true
     made none [] has = grind (arith, cases_Bool (has_row i rows), cases_Bool (bytes_eq a.id i))
     made none (v ∷ vs) has =
-        rw (at_row_last a.id (more_values DefaultValue (v ∷ vs)) _ rows none, list_any-append (λ r. bytes_eq r.id i) rows)
+        rw (
+          at_row_last a.id (more_values DefaultValue (v ∷ vs)) _ rows none,
+          list_any-append (λ r. bytes_eq r.id i) rows,
+        )
         (grind (arith, cases_Bool (has_row i rows), cases_Bool (bytes_eq a.id i)))
 
 -- an argument of this id has default values
