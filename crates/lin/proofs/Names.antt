@@ -55,9 +55,7 @@ module _ (listed : Listed) (x : OpId) where
 pub places_differ : (a b : OpId) → a.index < 8 → b.index < 8 → same_name a b ≡ false
     → 8 * b.thread + b.index ≢ 8 * a.thread + a.index
 places_differ a b short below differs e =
-    let threads : a.thread ≡ b.thread = omega arith in
-    let indices : a.index ≡ b.index = omega arith in
-    true≢false (rw (eq-eqb a.thread b.thread threads, eq-eqb a.index b.index indices) at differs)
+    grind (arith, nat_tests, differs)
 
 module _ {V : Type 0} where
   -- a name has a value in a longer list exactly if it has one in the list or is the last name

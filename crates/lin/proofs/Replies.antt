@@ -1,6 +1,6 @@
 -- A linearization before a reply is one after it exactly if running it gives that reply.
 use Rattle.std.proofs.Common.{◌≡◌, ◌≢◌, ℕ, inl, inr, Bool, true, false, true≢false, List, [], ◌∷◌}
-use Rattle.std.proofs.Common.{Option, Some, None, refl, sym, ◌∙◌}
+use Rattle.std.proofs.Common.{Option, Some, None, refl, sym, ◌∙◌, arith}
 use mathlib.Core.Bool.{beq}
 use Rattle.std.specs.Option.{option_map}
 use Rattle.std.proofs.lemmas.Bool.{cases_Bool}
@@ -30,10 +30,7 @@ op_of_reply (Some op) keys r h = (op, refl, cc)
 module _ (program : Program) (old new : History) (a : OpId) (r : Bool) (is : HasReplied old new a r) where
   ending-cons : (b : OpId) (rest : List OpId) → same_name b a ≡ false
       → ending_with (b ∷ rest) a ≡ b ∷ ending_with rest a
-  ending-cons b rest other = elim (cases_Bool (listed_in rest a)) [
-    | inl listed ↦ rw (other, listed)
-    | inr none ↦ rw (other, none)
-  ]
+  ending-cons b rest other = grind (arith, cases_Bool (listed_in rest a))
 
   -- ---- what had begun had begun, and ended before nothing else
   note_of : (b : OpId) → IsBegun old b

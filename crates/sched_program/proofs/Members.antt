@@ -1,5 +1,5 @@
 -- What the members of a program's text are, and are not.
-use Rattle.std.proofs.Common.{◌≡◌, ◌≢◌, ℕ, ◌≤◌, List, [], ◌∷◌, ◌++◌, length, map, arith, sym, ap, ◌∙◌, All}
+use Rattle.std.proofs.Common.{◌≡◌, ◌≢◌, ℕ, ◌≤◌, List, ◌++◌, length, map, arith, sym, ap, ◌∙◌, All}
 use Rattle.std.proofs.Common.{AllPairs, Bool, Option, true, false, MatchBool, codes}
 use Rattle.std.proofs.lemmas.List.Sums.{sum-map}
 use Rattle.std.specs.List.{AllByRecursion}
@@ -57,12 +57,6 @@ pub no_keys : (value : Data) → HasWords value → ((threads : List (List Op)) 
 no_keys value words none keys =
     let each = list_both HasWord HasKey IsOp op_joined in
     let found = list_both _ _ (IsListOf IsOp) each value words.0 keys.0 words.1 keys.1 in none found.0 found.1
-
--- one more of a list
-pub one_more : {A : Type 0} (P : A → Type 0) (xs : List A) (x : A) → AllByRecursion P xs → P x
-    → AllByRecursion P (xs ++ x ∷ [])
-one_more P [] x all here = (here, tt)
-one_more P (y ∷ ys) x all here = (all.0, one_more P ys x all.1 here)
 
 -- a value's counts fit if those that were read do
 pub counts_fit : (value : Data) (counts : List ℕ) (fit : Bool) → IsListOf IsListOfCount value counts
