@@ -1,5 +1,5 @@
 -- What was read so far follows what the reader had, and the read that returned no byte is its end.
-use Rattle.std.proofs.Common.{take, append-nil, arith}
+use Rattle.std.proofs.Common.{take, append-nil, arith, rules}
 use Rattle.std.proofs.KnownBytes.{Consumes-trans}
 use Rattle.sched_program.proofs.counted.Counted.read_all.Goals as goal
 
@@ -13,6 +13,9 @@ returns-then-count-eq0-clause-bytes g c =
 
 pub returns-then-count-eq0-clause-end : goal.returns-then-count-eq0-clause-end
 returns-then-count-eq0-clause-end g c = c.in_ok-count.ensures.bytes.1 c.if-count-eq0.true (omega arith)
+
+pub returns-then-count-eq0-clause-count : goal.returns-then-count-eq0-clause-count
+returns-then-count-eq0-clause-count g c = search rules
 
 pub loop-preserved : goal.loop-preserved
 loop-preserved g c =
