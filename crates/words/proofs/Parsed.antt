@@ -42,9 +42,8 @@ pub record HasValue (a : Rule) (id : Text) (rows : List Row) : Type 0 where
   pub one : one_of id rows ≡ Some (read_as (reading_by a) text)
   pub passes : value_passes a text ≡ true
 
-none_wanted : (help subcommand argument : Bool) → check_kinds help subcommand argument ≡ [] → (subcommand ≡ false)
-    × (argument ≡ false)
-none_wanted false false false h = (refl, refl)
+none_wanted : (help subcommand argument : Bool) → check_kinds help subcommand argument ≡ [] → argument ≡ false
+none_wanted false false false h = refl
 none_wanted help subcommand argument h = absurd (cc)
 
 module _ (s : Shape) (names : SubcommandNames) (words : List Text) (has : Bool) (below : Kinds)
@@ -117,7 +116,7 @@ module _ {s : Shape} {name : Text} {rows : List Row} (is : IsPassed s name rows)
   -- and so if it is required, or has a default
   required : s.subcommand_negates_reqs ≡ false → a.required ≡ true → HasValue a id rows
   required kept needed =
-      let argument = (none_wanted _ s.subcommand_required _ (parts s [] is.words false [] is.none).4).1 in
+      let argument = none_wanted _ s.subcommand_required _ (parts s [] is.words false [] is.none).4 in
       let missing : list_any (λ x. x.required && not (is_given x.id last)) s.rules ≡ false = rw kept at argument in
       has_value (given_has_row id last (required_given last s.rules id a missing found needed))
 
@@ -158,23 +157,14 @@ module _ (choices : Choices) where
   regular : AreRegular all.top.rules
   regular = ((refl, λ set. cc), tt)
 
+  one_more : {A B : Type 0} → A → B → A × B
+  one_more a b = (a, b)
+
   explore_regular : AreRegular explore_leaf.rules
-  explore_regular = (
-    (refl, λ set. refl),
-    (
-      (refl, λ set. refl),
-      (
-        (refl, λ set. refl),
-        (
-          (refl, λ set. refl),
-          (
-            (refl, λ set. refl),
-            ((refl, λ set. cc), ((refl, λ set. refl), ((refl, λ set. cc), tt))),
-          ),
-        ),
-      ),
-    ),
-  )
+  explore_regular =
+      one_more (refl, λ set. refl) (one_more (refl, λ set. refl) (one_more (refl, λ set. refl)
+      (one_more (refl, λ set. refl) (one_more (refl, λ set. refl)
+      ((refl, λ set. cc), ((refl, λ set. refl), ((refl, λ set. cc), tt)))))))
 
   replay_regular : AreRegular replay_leaf.rules
   replay_regular = ((refl, λ set. refl), ((refl, λ set. refl), ((refl, λ set. cc), tt)))

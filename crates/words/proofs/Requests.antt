@@ -29,20 +29,15 @@ pub read : (words : List Text) (app : App) → IsCommandLine app → (m : ArgMat
 read words app (choices, merges, is) m matches none name rows n r =
     (choices, merges, (rw is at none) refl, sym ((rw is at matches) refl).1 ∙ both _ (out-ArgMatches m).subcommand n r)
 
-module _ (words : List Text) (name : Text) (rows : List Row) (are : AreRead words name rows) where
-  -- a request of the subcommand is one of the words
-  pub asked : (own : Text) → own ≡ name → (r : Request) → IsRequestOf own rows r → AskFor words r
-  asked own named r is = (name, (rows, (are, rw (← named) is)))
-
-  -- so is a request or a fault
-  pub asked_or_refused : (own : Text) → own ≡ name → (r : Result Request WordsFault)
-      → MatchResult r (IsRequestOf own rows) (IsFaultOf own rows)
-      → MatchResult r (AskFor words) (AreRefused words)
-  asked_or_refused own named (Ok q) is = asked own named q is
-  asked_or_refused own named (Err (fault.Usage help text)) is = absurd is
-  asked_or_refused own named (Err fault.OutOfMemory) is = tt
-  asked_or_refused own named (Err f) is =
-      (rows, ((are.0, are.1, are.2, rw (sym named ∙ is.0) at are.3), is.1))
+-- a request or a fault of the subcommand is one of the words
+pub asked_or_refused : (words : List Text) (name : Text) (rows : List Row) → AreRead words name rows → (own : Text)
+    → own ≡ name → (r : Result Request WordsFault) → MatchResult r (IsRequestOf own rows) (IsFaultOf own rows)
+    → MatchResult r (AskFor words) (AreRefused words)
+asked_or_refused words name rows are own named (Ok q) is = (name, (rows, (are, rw (← named) is)))
+asked_or_refused words name rows are own named (Err (fault.Usage help text)) is = absurd is
+asked_or_refused words name rows are own named (Err fault.OutOfMemory) is = tt
+asked_or_refused words name rows are own named (Err f) is =
+    (rows, ((are.0, are.1, are.2, rw (sym named ∙ is.0) at are.3), is.1))
 
 pub stated : (words : List Text) (error : Error) (app : App) → IsCommandLine app
     → (is_simple_and_free app ≡ true → HasKind (fault_of app words) error)
