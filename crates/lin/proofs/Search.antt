@@ -60,17 +60,14 @@ module _ {V : Type 0} (listed : Listed) (a : OpId) where
   ]
 
 -- an operation that comes next was pushed on the order
-module _ {program : Program} {history : History} {order before pushed : List OpId} {listed : Listed} {keys next : Keys}
-    {a : OpId} (are : listed ≡ listed_in order) (stands_next : StandsNext program history listed keys a next)
-    (same : before ≡ order) (push : pushed ≡ before ++ a ∷ []) where
+module _ {program : Program} {history : History} (order : List OpId) {pushed : List OpId} {listed : Listed}
+    {keys next : Keys} {a : OpId} (are : listed ≡ listed_in order)
+    (stands_next : StandsNext program history listed keys a next) (push : pushed ≡ order ++ a ∷ []) where
   stands : StandsNext program history (listed_in order) keys a next
   stands = rw are at stands_next
 
-  pushed_is : pushed ≡ order ++ a ∷ []
-  pushed_is = rw same at push
-
   listed_pushed : listed_in pushed ≡ with_name (listed_in order) a
-  listed_pushed = rw (pushed_is, listed_push order a)
+  listed_pushed = rw (push, listed_push order a)
 
   -- fewer entries have a name that is not listed, and these operations are listed
   pub once_pushed : (after : Listed) → after ≡ with_name listed a
@@ -87,7 +84,7 @@ module _ {program : Program} {history : History} {order before pushed : List OpI
       → (rest : List OpId) × (whole ≡ order ++ rest) × Completes program history (listed_in order) keys rest
   found_more whole found = (
     a ∷ found.0,
-    rw (pushed_is, append_assoc order (a ∷ []) found.0) at found.1,
+    rw (push, append_assoc order (a ∷ []) found.0) at found.1,
     (next, stands, rw listed_pushed at found.2),
   )
 
