@@ -71,8 +71,12 @@ module _ (program : Program) (old new : History) (a : OpId) (r : Bool) (is : Has
   stands_itself : (listed : Listed) (keys : Keys) (o : Op) → listed a ≡ false
       → op_at program a.thread a.index ≡ Some o → r ≡ reply_on o keys
       → StandsNext program new listed keys a (keys_after o keys)
-  stands_itself listed keys o fresh at gives =
-      record { begun = is.began; new = fresh; in_time = λ b among. is.last b; gives = rw (at, is.replied) (gives, refl) }
+  stands_itself listed keys o fresh at gives = record {
+    begun = is.began;
+    new = fresh;
+    in_time = λ b among. is.last b;
+    gives = rw (at, is.replied) (gives, refl);
+  }
 
   rest_completes : (listed : Listed) (keys : Keys) (rest : List OpId) → AllBegun listed → listed a ≡ true
       → Completes program old listed keys rest → Completes program new listed keys rest
