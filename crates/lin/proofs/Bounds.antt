@@ -1,5 +1,5 @@
 -- A linearization has no more operations than its program, and so twelve at most.
-use Rattle.std.proofs.Common.{◌≡◌, ℕ, zero, suc, ◌+◌, ◌<◌, ◌≤◌, true, true≢false, List, [], ◌∷◌, ◌++◌, length, map}
+use Rattle.std.proofs.Common.{◌≡◌, ℕ, zero, suc, ◌+◌, ◌≤◌, true, true≢false, List, [], ◌∷◌, ◌++◌, length, map}
 use Rattle.std.proofs.Common.{Some, IsSome, IfSome, All, slice_get, refl, sym, arith, length-append}
 use Rattle.std.specs.Prelude.{option_and_then, sum_by}
 use Rattle.std.specs.List.{list_any, range_with_len}
@@ -16,7 +16,9 @@ use Rattle.sched_program.specs.Program.{Program, IsWithinLimits, op_at}
 use Rattle.sched_program.specs.History.{History, reply}
 use Rattle.lin.specs.Keys.{Keys, keys_of, keys_after, reply_on}
 use Rattle.lin.specs.Linearization.{GivesReplies, IsLinearization}
-use Rattle.lin.proofs.Lists.{IsSomeAnd-value, Contains-found}
+use Rattle.std.proofs.lemmas.Map.Views.{Contains-from_any}
+use Rattle.std.proofs.lemmas.Option.{slice_get_within}
+use Rattle.lin.proofs.Lists.{IsSome-value, IsSomeAnd-value}
 use Rattle.lin.proofs.Names.{same_name_self, same_name-is, same_name_laws}
 
 -- the names of the operations of these threads, of which the first has this number
@@ -30,18 +32,14 @@ names_count t [] = refl
 names_count t (ops ∷ rest) =
     rw (length-append, length-map-range_with_len) (omega (arith, names_count (suc t) rest, sum_by-cons length ops rest))
 
-within : (ops : List Op) (i : ℕ) → IsSome (slice_get ops i) → i < length ops
-within [] i h = absurd (true≢false (sym h))
-within (o ∷ ops) zero h = omega arith
-within (o ∷ ops) (suc i) h = omega (arith, within ops i h)
-
 is_named : (s t : ℕ) (threads : List (List Op)) (a : OpId) → a.thread ≡ s + t
     → IsSome (option_and_then (λ ops. slice_get ops a.index) (slice_get threads t))
     → list_any (same_name a) (names_from s threads) ≡ true
 is_named s t [] a e h = absurd (true≢false (sym h))
 is_named s zero (ops ∷ rest) a e h =
     let name : ℕ → OpId = λ i. record { thread = s; index = i } in
-    let below = within ops a.index h in
+    let (o, found) = IsSome-value (slice_get ops a.index) h in
+    let below = slice_get_within ops a.index o found in
     let thread : a.thread ≡ s = omega arith in
     rw list_any-append (or_left _ _ (list_any_at (same_name a) (map name (range_with_len 0 (length ops))) a.index a
     (omega (arith, length-map-range_with_len name 0 (length ops)))
@@ -78,5 +76,5 @@ module _ (program : Program) where
       let fewer : length order ≤ length names =
       length-le_from_is_member same_name_laws order names distinct
       (λ a among. All-contains (λ b. list_any (same_name b) names ≡ true) order a named
-      (Contains-found (same_name a) order a (λ b same. sym (same_name-is a b same)) among)) in
+      (Contains-from_any same_name-is a order among)) in
       omega (arith, limits.total, names_count 0 program.threads)

@@ -3,7 +3,7 @@ use Rattle.std.proofs.Common.{◌≡◌, ℕ, zero, suc, ◌+◌, ◌<◌, ◌�
 use Rattle.std.proofs.Common.{length, get_or, take, drop, Some, IsSome, slice_get, refl, sym, ap, ◌∙◌, arith, ◌↔◌}
 use mathlib.Core.Path.{fun_ext}
 use Rattle.std.proofs.lemmas.Bool.{cases_Bool, cases_lt, false_from_ne_true}
-use Rattle.std.proofs.lemmas.List.{drop_more, take_all, drop_all, length-take, get_or-take, get_or_default}
+use Rattle.std.proofs.lemmas.List.{drop_more, take_all, drop_all, length-take, get_or-take}
 use Rattle.std.proofs.lemmas.List.Folds.{list_any_more}
 use Rattle.std.proofs.lemmas.Option.{slice_get_within, slice_get-get_or, get_or_from_slice_get}
 use Rattle.sched_program.specs.declared.operation.OpId.{OpId}
@@ -25,12 +25,12 @@ module _ (order : List OpId) where
 
   -- the first operations of the list are those at the first places
   place_of : (n : ℕ) (a : OpId) → listed_in (take n order) a ≡ true
-      → (k : ℕ) × (k < n) × (k < length order) × (get_or order k a ≡ a)
+      → (k : ℕ) × (k < n) × (slice_get order k ≡ Some a)
   place_of n a listed =
-      let among = Contains-listed (take n order) a listed in
-      let below : (among.0 < n) × (among.0 < length order) =
-      (omega (arith, among.1, length-take n order), omega (arith, among.1, length-take n order)) in
-      (among.0, below.0, below.1, sym (get_or-take n order among.0 a below.0) ∙ among.2)
+      let (k, within, is) = Contains-listed (take n order) a listed in
+      let below : k < n = omega (arith, length-take n order) in
+      let at : get_or order k a ≡ a = sym (get_or-take n order k a below) ∙ is in
+      (k, below, slice_get-get_or order k a (omega (arith, length-take n order)) ∙ ap Some at)
 
   listed_at : (n k : ℕ) (a : OpId) → k < n → slice_get order k ≡ Some a → listed_in (take n order) a ≡ true
   listed_at n k a below at =
@@ -61,11 +61,10 @@ module _ (program : Program) (history : History) where
           begun = was.begun i d within;
           new = false_from_ne_true _ (λ listed.
               let at = place_of order i x listed in
-              was.distinct at.0 i x at.1 within (at.3 ∙ get_or_default order i d x within));
+              was.distinct at.0 i d at.1 within (get_or_from_slice_get order at.0 x d at.2));
           in_time = λ b listed ended.
               let at = place_of order (i + 1) b (ap (λ f. f b) (sym more) ∙ listed) in
-              let before = was.in_time i at.0 x b (slice_get-get_or order i d within)
-              (slice_get-get_or order at.0 b at.2 ∙ ap Some at.3) ended in
+              let before = was.in_time i at.0 x b (slice_get-get_or order i d within) at.2 ended in
               omega (arith, at.1);
           gives = rw first.1 (first.2.0, refl);
         } in

@@ -1,7 +1,6 @@
 pub mod Names
 pub mod Lists
 pub mod Bits
-pub mod OpBits
 pub mod Completions
 pub mod Search
 pub mod Configurations

@@ -1,5 +1,5 @@
 -- Names of operations, and the values beside them.
-use Rattle.std.proofs.Common.{◌≡◌, ◌≢◌, ℕ, zero, suc, ◌+◌, ◌*◌, ◌<◌, ◌||◌, ◌⊎◌, inl, inr, Bool, true, false}
+use Rattle.std.proofs.Common.{◌≡◌, ◌≢◌, ℕ, zero, suc, ◌+◌, ◌*◌, ◌<◌, ◌||◌, ◌⊎◌, inl, inr, true, false}
 use Rattle.std.proofs.Common.{true≢false, List, [], ◌∷◌, ◌++◌, length, get_or, IsSome, All, Contains}
 use Rattle.std.proofs.Common.{refl, sym, eqb, eqb-true, eq-eqb, arith}
 use Rattle.std.specs.Prelude.{is_some}
@@ -8,10 +8,10 @@ use Rattle.std.specs.Cmp.{IsEquivalence}
 use Rattle.std.proofs.lemmas.Bool.Decides.{nat_tests}
 use Rattle.std.proofs.lemmas.List.Elements.{All-head, All-tail}
 use Rattle.std.proofs.lemmas.List.Folds.{list_any_at}
+use Rattle.std.proofs.lemmas.Map.Views.{Contains-from_any}
 use Rattle.sched_program.specs.declared.operation.OpId.{OpId}
 use Rattle.sched_program.specs.Name.{same_name, value_at}
 use Rattle.lin.specs.Completion.{Listed, listed_in, with_name}
-use Rattle.lin.proofs.Lists.{Contains-found}
 
 pub same_name_self : (a : OpId) → same_name a a ≡ true
 same_name_self a = rw (eq-eqb a.thread a.thread refl, eq-eqb a.index a.index refl)
@@ -19,9 +19,7 @@ same_name_self a = rw (eq-eqb a.thread a.thread refl, eq-eqb a.index a.index ref
 pub same_name-is : (a b : OpId) → same_name a b ≡ true → a ≡ b
 same_name-is a b h =
     let pieces = and_parts (eqb a.thread b.thread) (eqb a.index b.index) h in
-    let threads : a.thread ≡ b.thread = eqb-true a.thread b.thread pieces.0 in
-    let indices : a.index ≡ b.index = eqb-true a.index b.index pieces.1 in
-    λ j. record { thread = threads j; index = indices j }
+    λ j. record { thread = eqb-true _ _ pieces.0 j; index = eqb-true _ _ pieces.1 j }
 
 pub same_name_laws : IsEquivalence same_name
 same_name_laws = record {
@@ -36,7 +34,8 @@ listed-Contains order a among =
     list_any_at (λ b. same_name b a) order among.0 a among.1 (rw among.2 (same_name_self a))
 
 pub Contains-listed : (order : List OpId) (a : OpId) → listed_in order a ≡ true → Contains order a
-Contains-listed order a h = Contains-found (λ b. same_name b a) order a (λ b. same_name-is b a) h
+Contains-listed order a h =
+    Contains-from_any {eq = λ x b. same_name b x} (λ x b same. sym (same_name-is b x same)) a order h
 
 -- what is in a set with one more name was in it, or is that name
 module _ (listed : Listed) (x : OpId) where
@@ -56,9 +55,7 @@ module _ (listed : Listed) (x : OpId) where
 pub places_differ : (a b : OpId) → a.index < 8 → b.index < 8 → same_name a b ≡ false
     → 8 * b.thread + b.index ≢ 8 * a.thread + a.index
 places_differ a b short below differs e =
-    let threads : a.thread ≡ b.thread = omega arith in
-    let indices : a.index ≡ b.index = omega arith in
-    true≢false (rw (eq-eqb a.thread b.thread threads, eq-eqb a.index b.index indices) at differs)
+    grind (arith, nat_tests, differs)
 
 module _ {V : Type 0} where
   -- a name has a value in a longer list exactly if it has one in the list or is the last name
@@ -74,15 +71,6 @@ module _ {V : Type 0} where
   IsSome-value_at (x ∷ xs) zero d h = rw (same_name_self x.0) refl
   IsSome-value_at (x ∷ xs) (suc i) d h =
       grind (arith, cases_Bool (same_name x.0 (get_or xs i d).0), IsSome-value_at xs i d)
-
-  -- not every name with a value passes a test that one of them fails
-  pub one_fails : (test : OpId → Bool) (entries items : List (OpId × V)) (i : ℕ) (d : OpId × V) → items ≡ entries
-      → i < length items → test (get_or items i d).0 ≡ false
-      → ((a : OpId) → IsSome (value_at entries a) → test a ≡ true) → ⊥
-  one_fails test entries items i d e h fails every =
-      let here : IsSome (value_at entries (get_or items i d).0) = rw (← e) (IsSome-value_at items i d h) in
-      let passes = every (get_or items i d).0 here in
-      cc
 
   -- what holds of the name of each entry holds of each name with a value
   pub each_named : (P : OpId → Type 0) (entries : List (OpId × V)) (a : OpId) → All (λ e. P e.0) entries

@@ -1,20 +1,19 @@
 -- A linearization before a reply is one after it exactly if running it gives that reply.
-use Rattle.std.proofs.Common.{◌≡◌, ◌≢◌, ℕ, ◌≤◌, inl, inr, Bool, true, false, true≢false, List, [], ◌∷◌, length}
+use Rattle.std.proofs.Common.{◌≡◌, ◌≢◌, ℕ, inl, inr, Bool, true, false, true≢false, List, [], ◌∷◌}
 use Rattle.std.proofs.Common.{Option, Some, None, refl, sym, ◌∙◌, arith}
-use Rattle.std.specs.Prelude.{MatchOption}
 use mathlib.Core.Bool.{beq}
 use Rattle.std.specs.Option.{option_map}
 use Rattle.std.proofs.lemmas.Bool.{cases_Bool}
 use Rattle.sched_program.specs.declared.operation.OpId.{OpId}
 use Rattle.sched_program.specs.declared.operation.Op.{Op}
 use Rattle.sched_program.specs.Name.{same_name, value_at}
-use Rattle.sched_program.specs.Program.{Program, IsWithinLimits, op_at}
+use Rattle.sched_program.specs.Program.{Program, op_at}
 use Rattle.sched_program.specs.History.{History, reply, IsBegun, EndedBefore}
 use Rattle.lin.specs.Keys.{Keys, keys_of, keys_after, reply_on}
 use Rattle.lin.specs.Completion.{Listed, listed_in, with_name, StandsNext, Completes, EveryFinishedIsListed}
 use Rattle.lin.specs.Linearization.{GivesReplies, IsLinearization}
 use Rattle.lin.specs.Reply.{reply_in, ending_with, HasReplied}
-use Rattle.lin.proofs.Bounds.{at_most_twelve, first_given}
+use Rattle.lin.proofs.Bounds.{first_given}
 use Rattle.lin.proofs.Completions.{IsLinearization-completes, Completes-linearization}
 use Rattle.lin.proofs.Names.{same_name_self, same_name-is, with_name-cases, with_name-earlier, with_name-itself}
 use Rattle.lin.proofs.Lists.{IsSome-value, IsSomeAnd-value}
@@ -31,10 +30,7 @@ op_of_reply (Some op) keys r h = (op, refl, cc)
 module _ (program : Program) (old new : History) (a : OpId) (r : Bool) (is : HasReplied old new a r) where
   ending-cons : (b : OpId) (rest : List OpId) → same_name b a ≡ false
       → ending_with (b ∷ rest) a ≡ b ∷ ending_with rest a
-  ending-cons b rest other = elim (cases_Bool (listed_in rest a)) [
-    | inl listed ↦ rw (other, listed)
-    | inr none ↦ rw (other, none)
-  ]
+  ending-cons b rest other = grind (arith, cases_Bool (listed_in rest a))
 
   -- ---- what had begun had begun, and ended before nothing else
   note_of : (b : OpId) → IsBegun old b
@@ -79,7 +75,7 @@ module _ (program : Program) (old new : History) (a : OpId) (r : Bool) (is : Has
     begun = is.began;
     new = fresh;
     in_time = λ b among. is.last b;
-    gives = rw at (rw is.replied gives, refl);
+    gives = rw (at, is.replied) (gives, refl);
   }
 
   rest_completes : (listed : Listed) (keys : Keys) (rest : List OpId) → AllBegun listed → listed a ≡ true
@@ -153,24 +149,6 @@ module _ (program : Program) (old new : History) (a : OpId) (r : Bool) (is : Has
   pub kept_reply : (order : List OpId) → IsLinearization program new (ending_with order a)
       → reply_in program (keys_of program.initial) order a ≡ Some r
   kept_reply order now = given_ending (keys_of program.initial) order now.replies
-
--- ---- what the search of a reply in an order answers
-module _ (program : Program) (limits : IsWithinLimits program) (order : List OpId) (a : OpId) (r : Bool) where
-  pub answer_means : (answer : Option (List OpId))
-      → MatchOption answer (13 ≤ length (ending_with order a)) (λ longer. longer ≡ ending_with order a)
-      → reply_in program (keys_of program.initial) order a ≡ Some r
-      → MatchOption answer
-      ((old new : History) → HasReplied old new a r → IsLinearization program old order
-      → IsLinearization program new (ending_with order a) → ⊥)
-      (λ longer. (longer ≡ ending_with order a)
-      × ((old new : History) → HasReplied old new a r → IsLinearization program old order
-      → IsLinearization program new longer))
-  answer_means None long stated =
-      λ old new is was now. omega (arith, at_most_twelve program limits new (ending_with order a) now)
-  answer_means (Some longer) same stated = (
-    same,
-    λ old new is was. rw same (reply_keeps program old new a r is order was stated),
-  )
 
 -- answers that the test tells apart differ
 pub not_same : (stated r : Bool) → beq stated r ≡ false → stated ≡ r → ⊥

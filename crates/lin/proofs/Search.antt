@@ -11,13 +11,11 @@ use Rattle.std.proofs.lemmas.List.Folds.{list_any-append}
 use Rattle.sched_program.specs.declared.operation.OpId.{OpId}
 use Rattle.sched_program.specs.Program.{Program}
 use Rattle.sched_program.specs.History.{History}
-use Rattle.lin.specs.Keys.{Keys, keys_of}
+use Rattle.lin.specs.Keys.{Keys}
 use Rattle.sched_program.specs.Name.{same_name, value_at}
-use Rattle.lin.specs.Linearization.{IsLinearization}
 use Rattle.lin.specs.Completion.{Listed, listed_in, with_name, StandsNext, Completes, EveryFinishedIsListed, IsHopeless}
 use Rattle.lin.proofs.Names.{each_named, same_name-is, with_name-itself}
-use Rattle.lin.proofs.Completions.{StandsNext-same, IsLinearization-completes}
-use Rattle.lin.proofs.Completions.{Completes-linearization}
+use Rattle.lin.proofs.Completions.{StandsNext-same}
 
 listed_push : (order : List OpId) (a : OpId) → listed_in (order ++ a ∷ []) ≡ with_name (listed_in order) a
 listed_push order a =
@@ -62,17 +60,14 @@ module _ {V : Type 0} (listed : Listed) (a : OpId) where
   ]
 
 -- an operation that comes next was pushed on the order
-module _ {program : Program} {history : History} {order before pushed : List OpId} {listed : Listed} {keys next : Keys}
-    {a : OpId} (are : listed ≡ listed_in order) (stands_next : StandsNext program history listed keys a next)
-    (same : before ≡ order) (push : pushed ≡ before ++ a ∷ []) where
+module _ {program : Program} {history : History} (order : List OpId) {pushed : List OpId} {listed : Listed}
+    {keys next : Keys} {a : OpId} (are : listed ≡ listed_in order)
+    (stands_next : StandsNext program history listed keys a next) (push : pushed ≡ order ++ a ∷ []) where
   stands : StandsNext program history (listed_in order) keys a next
   stands = rw are at stands_next
 
-  pushed_is : pushed ≡ order ++ a ∷ []
-  pushed_is = rw same at push
-
   listed_pushed : listed_in pushed ≡ with_name (listed_in order) a
-  listed_pushed = rw (pushed_is, listed_push order a)
+  listed_pushed = rw (push, listed_push order a)
 
   -- fewer entries have a name that is not listed, and these operations are listed
   pub once_pushed : (after : Listed) → after ≡ with_name listed a
@@ -89,7 +84,7 @@ module _ {program : Program} {history : History} {order before pushed : List OpI
       → (rest : List OpId) × (whole ≡ order ++ rest) × Completes program history (listed_in order) keys rest
   found_more whole found = (
     a ∷ found.0,
-    rw (pushed_is, append_assoc order (a ∷ []) found.0) at found.1,
+    rw (push, append_assoc order (a ∷ []) found.0) at found.1,
     (next, stands, rw listed_pushed at found.2),
   )
 
@@ -105,26 +100,11 @@ abbrev pub CannotComeNext : Program → History → Listed → Keys → OpId →
 CannotComeNext program history listed keys a =
     (rest : List OpId) → Completes program history listed keys (a ∷ rest) → ⊥
 
-module _ (program : Program) (history : History) where
-  -- where each begun operation was tried, nothing completes
-  pub nothing_left : (listed : Listed) (keys : Keys) → (EveryFinishedIsListed history listed → ⊥)
-      → All (λ e. CannotComeNext program history listed keys e.0) history.begun
-      → IsHopeless program history listed keys
-  nothing_left listed keys missing tried [] every = missing every
-  nothing_left listed keys missing tried (a ∷ rest) c =
-      each_named (CannotComeNext program history listed keys) history.begun a tried c.1.begun rest c
-
-  -- what completes the empty list is a linearization,
-  pub found_linearization : (empty order : List OpId) (keys : Keys) → empty ≡ [] → keys ≡ keys_of program.initial
-      → (rest : List OpId) × (order ≡ empty ++ rest) × Completes program history (listed_in empty) keys rest
-      → IsLinearization program history order
-  found_linearization empty order keys e k found =
-      let whole : order ≡ found.0 = rw e at found.1 in
-      rw whole (Completes-linearization program history found.0 (rw (← e, ← k) found.2))
-
-  -- and where nothing completes it there is none
-  pub none_linearization : (empty : List OpId) (keys : Keys) → empty ≡ [] → keys ≡ keys_of program.initial
-      → IsHopeless program history (listed_in empty) keys → (order : List OpId) → IsLinearization program history order
-      → ⊥
-  none_linearization empty keys e k none order linearization =
-      none order (rw (e, k) (IsLinearization-completes program history order linearization))
+-- where each begun operation was tried, nothing completes
+pub nothing_left : (program : Program) (history : History) (listed : Listed) (keys : Keys)
+    → (EveryFinishedIsListed history listed → ⊥)
+    → All (λ e. CannotComeNext program history listed keys e.0) history.begun
+    → IsHopeless program history listed keys
+nothing_left program history listed keys missing tried [] every = missing every
+nothing_left program history listed keys missing tried (a ∷ rest) c =
+    each_named (CannotComeNext program history listed keys) history.begun a tried c.1.begun rest c

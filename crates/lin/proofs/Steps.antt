@@ -1,5 +1,5 @@
 -- Whether an operation may come next, from sets of operations.
-use Rattle.std.proofs.Common.{◌≡◌, ◌&&◌, ◌||◌, Bool, true, false, true≢false, List, [], ◌∷◌, IsSome, MatchBool, ◌↔◌}
+use Rattle.std.proofs.Common.{◌≡◌, ◌&&◌, ◌||◌, Bool, true, false, true≢false, List, ◌∷◌, IsSome, MatchBool, ◌↔◌}
 use Rattle.std.proofs.Common.{arith, inl, inr, refl, sym, ◌∙◌, ap}
 use Rattle.std.proofs.lemmas.Bool.{or_cases, or_parts, or_left, or_right, and_parts, cases_Bool, true_from_ne_false}
 use Rattle.sched_program.specs.declared.operation.OpId.{OpId}
@@ -7,10 +7,10 @@ use Rattle.sched_program.specs.Program.{Program}
 use Rattle.sched_program.specs.History.{History, IsHistory, reply, EndedBefore}
 use Rattle.sched_program.specs.Name.{same_name}
 use Rattle.lin.specs.Keys.{Keys}
-use Rattle.lin.specs.Completion.{Listed, listed_in, with_name, EveryFinishedIsListed, Completes}
+use Rattle.lin.specs.Completion.{Listed, with_name, EveryFinishedIsListed, Completes}
 use Rattle.lin.specs.Timeline.{HasPlace, finished_in}
 use Rattle.lin.specs.Progress.{AreBarred}
-use Rattle.lin.proofs.Names.{same_name-is, with_name-cases, with_name-earlier, with_name-itself}
+use Rattle.lin.proofs.Names.{each_named, same_name-is, with_name-cases, with_name-earlier, with_name-itself}
 use Rattle.lin.proofs.Completions.{never_late}
 use Rattle.lin.proofs.Timelines.{finished_placed}
 
@@ -61,17 +61,14 @@ module _ (history : History) (listed barred before : Listed) (name : OpId) (has 
     none_missing events finished finished_are a among =
         let pieces = and_parts (before a) (finished a) among in
         let some : IsSome (reply history a) = sym (ap (λ f. f a) finished_are) ∙ pieces.1 in
-        let ended : EndedBefore history a name = (before_are a (finished_placed history events a some)).0 pieces.0 in
+        let placed = each_named HasPlace history.finished a (finished_placed history events) some in
+        let ended : EndedBefore history a name = (before_are a placed).0 pieces.0 in
         true_from_ne_false (listed a) (λ new. elim (cases_Bool (same_name name a)) [
           | inl same ↦
               c.1.in_time name (with_name-itself listed name) (rw (← same_name-is name a same) at ended)
           | inr other ↦ never_late program history (with_name listed name) c.0 rest a name c.2 some
               (rw (new, other) refl) (with_name-itself listed name) ended
         ])
-
--- with nothing listed nothing is barred
-pub barred_none : (history : History) → AreBarred history (listed_in []) (listed_in [])
-barred_none history a has = (λ h. absurd (true≢false (sym h)), λ ended. absurd (true≢false (sym ended.1)))
 
 -- a test decides between two facts
 pub by_test : {P Q : Type 0} (b : Bool) → (b ≡ true → P) → (b ≡ false → Q) → MatchBool b P Q

@@ -1,7 +1,7 @@
 -- What is in the table of a history.
 use Rattle.std.proofs.Common.{◌≡◌, ◌≢◌, ℕ, ◌+◌, ◌-◌, ◌<◌, ◌≤◌, ◌&&◌, ◌||◌, Bool, true, eqb, ltb}
 use Rattle.std.proofs.Common.{List, [], length, get_or, set, take, drop}
-use Rattle.std.proofs.Common.{Option, Some, None, IsSome, IsSomeAnd, ◌↔◌, IfSome, sym, ◌∙◌, ap, arith}
+use Rattle.std.proofs.Common.{All, Option, Some, None, IsSome, IsSomeAnd, ◌↔◌, IfSome, sym, ◌∙◌, ap, arith}
 use Rattle.std.proofs.Common.{true≢false, inl, inr}
 use Rattle.std.specs.Prelude.{slice_index}
 use Rattle.std.proofs.lemmas.List.{get_or_default, get_or_past, get_or-set_other, drop_more, take_more}
@@ -13,7 +13,7 @@ use Rattle.sched_program.specs.declared.operation.OpId.{OpId}
 use Rattle.lin.specs.Completion.{Listed, listed_in, with_name}
 use Rattle.sched_program.specs.Name.{same_name, value_at}
 use Rattle.lin.specs.Timeline.{HasPlace, place_of, counted, AreSetsBefore, finished_in}
-use Rattle.sched_program.specs.History.{History, IsHistory, IsBegun, reply, EndedBefore}
+use Rattle.sched_program.specs.History.{History, IsHistory, IsBegun, EndedBefore}
 use Rattle.lin.specs.OpSet.{operations_in}
 use Rattle.lin.specs.declared.op_set.OpSet.{OpSet}
 use Rattle.lin.proofs.Names.{each_named, is_some_push, places_differ, same_name-is}
@@ -62,24 +62,12 @@ module _ {V T : Type 0} (P : Option V → T → Type 0) where
 
 -- the operations of a history have places: those that began, and so those that are finished
 module _ (history : History) (events : IsHistory history) where
-  begun_placed : (a : OpId) → IsBegun history a → HasPlace a
-  begun_placed a begun =
-      let small = each_named (λ b. (b.thread < 4) × (b.index < 6)) history.begun a events.names begun in
-      (small.0, omega arith)
+  pub begun_placed : All (λ e. HasPlace e.0) history.begun
+  begun_placed i d within = let small = events.names i d within in (small.0, omega (arith, small.1))
 
-  pub finished_placed : (a : OpId) → IsSome (reply history a) → HasPlace a
-  finished_placed a some =
-      begun_placed a (each_named (IsBegun history) history.finished a events.finished_are_begun some)
-
-  pub begun_has_place : (entries : List (OpId × List ℕ)) (i : ℕ) (d : OpId × List ℕ) → entries ≡ history.begun
-      → i < length entries → HasPlace (get_or entries i d).0
-  begun_has_place entries i d e within =
-      let small = events.names i d (rw e at within) in rw e (small.0, omega (arith, small.1))
-
-  pub finished_has_place : (entries : List (OpId × Bool)) (i : ℕ) (d : OpId × Bool) → entries ≡ history.finished
-      → i < length entries → HasPlace (get_or entries i d).0
-  finished_has_place entries i d e within =
-      rw e (begun_placed (get_or history.finished i d).0 (events.finished_are_begun i d (rw e at within)))
+  pub finished_placed : All (λ e. HasPlace e.0) history.finished
+  finished_placed i d within =
+      each_named HasPlace history.begun _ begun_placed (events.finished_are_begun i d within)
 
 -- one more entry is among the finished ones
 pub finished_more : (items : List (OpId × Bool)) (i : ℕ) (d : OpId × Bool) → i < length items

@@ -27,9 +27,8 @@ impl OpSet {
         requires { thread < 4 }
         ensures { operations_in result ≡ (λ a. nat_lt a.index 8 && (a.thread == thread && nat_lt a.index count)) }
     {
-        let ones = if count < 8 { (1 << count) - 1 } else { 0xff };
         OpSet {
-            bits: ones << (8 * thread),
+            bits: ((1 << count.min(8)) - 1) << (8 * thread),
         }
     }
 
@@ -72,6 +71,7 @@ impl OpSet {
     }
 
     /// Whether each operation of this set is in another one too.
+    #[tactic(auto, using(crate::proofs::Bits::within_bits))]
     pub fn is_within(self, other: OpSet) -> bool
         ensures { IsTrue result ↔ ((a : Name) → operations_in self a ≡ true → operations_in other a ≡ true) }
     {

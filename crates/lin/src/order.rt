@@ -1,16 +1,16 @@
 //! The definition of a linearization, decided for a given list.
 
-ghost use Rattle.std.specs.Prelude.{◌≡◌, ◌↔◌, IsTrue, true, MatchBool, MatchOption};
+ghost use Rattle.std.specs.Prelude.{◌≡◌, ◌↔◌, IsTrue, true, All, MatchBool, MatchOption};
 ghost use Rattle.sched_program.specs.Program.{IsWithinLimits};
 ghost use Rattle.lin.specs.Keys.{Keys};
 ghost use Rattle.lin.specs.KeySet.{keys_in};
 ghost use Rattle.sched_program.specs.History.{EndedBefore};
 ghost use Rattle.lin.specs.Linearization.{IsLinearization};
-ghost use Rattle.lin.specs.Completion.{listed_in, with_name, EveryFinishedIsListed, StandsNext};
+ghost use Rattle.lin.specs.Completion.{listed_in, with_name, StandsNext};
 
-use crate::history::{ended_before, is_begun, reply_of};
+use crate::history::ended_before;
 use crate::key_set::KeySet;
-use sched_program::{History, OpId, Program};
+use sched_program::{History, OpId, Program, value_of};
 
 /// Whether the list is a linearization of the history. It takes no memory, and any list may be asked about.
 pub fn check_order(program: &Program, history: &History, order: &[OpId]) -> bool
@@ -39,15 +39,15 @@ fn keys_after_next(
         ((next : Keys) → StandsNext program.now history.now (listed_in listed.now) (keys_in keys) name next → ⊥)
         (λ next. StandsNext program.now history.now (listed_in listed.now) (keys_in keys) name (keys_in next)) }
 {
-    if !is_begun(history, name)
-        || listed.contains(&name)
+    if value_of(history.begun(), name).is_none()
+        || lists(listed, name)
         || ended_before_any(history, name, listed)
     {
         return None;
     }
     let operation = program.op(name)?;
     let stated = keys.reply_to(operation);
-    match reply_of(history, name) {
+    match value_of(history.finished(), name) {
         Some(reply) if reply != stated => None,
         _ => Some(keys.after(operation)),
     }
@@ -70,14 +70,19 @@ fn ended_before_any(history: &History, name: OpId, listed: &[OpId]) -> bool
     false
 }
 
+/// Whether an operation is listed.
+fn lists(listed: &[OpId], name: OpId) -> bool
+    ensures { result ≡ listed_in listed.now name }
+{
+    listed.contains(&name)
+}
+
 /// Whether every finished operation is listed.
 fn lists_every_finished(history: &History, listed: &[OpId]) -> bool
-    ensures { IsTrue result ↔ EveryFinishedIsListed history.now (listed_in listed.now) }
+    ensures { IsTrue result ↔ All (λ e. listed_in listed.now e.0 ≡ true) history.now.finished }
 {
-    for (name, _) in history.finished() {
-        if !listed.contains(name) {
-            return false;
-        }
-    }
-    true
+    history
+        .finished()
+        .iter()
+        .all(|(name, _)| lists(listed, *name))
 }

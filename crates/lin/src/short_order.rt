@@ -49,12 +49,7 @@ fn order_of(names: &[OpId]) -> Order
 fn lists(order: &Order, name: OpId) -> bool
     ensures { result ≡ listed_in order.now name }
 {
-    for other in order.as_slice() {
-        if other.name() == name {
-            return true;
-        }
-    }
-    false
+    order.as_slice().iter().any(|other| other.name() == name)
 }
 
 /// The order with an operation at its end, unless it is there already. None where there is no room.

@@ -1,26 +1,22 @@
 -- What the limits of a program say of its operations, and of the histories of its runs.
-use Rattle.std.proofs.Common.{◌≡◌, ℕ, ◌<◌, ◌≤◌, List, length, Option, Some, None, IsSome, refl, arith}
-use Rattle.std.specs.Prelude.{option_and_then, slice_get, slice_index_or}
-use Rattle.std.proofs.lemmas.Option.{slice_get_within, get_or_from_slice_get}
+use Rattle.std.proofs.Common.{◌≡◌, ℕ, ◌<◌, ◌≤◌, length, Option, Some, None, IsSome, refl, arith}
+use Rattle.std.specs.Prelude.{slice_get, slice_index_or}
+use Rattle.std.proofs.lemmas.Option.{option_and_then_some, slice_get_within, get_or_from_slice_get}
 use Rattle.sched_program.specs.declared.operation.Op.{Op}
 use Rattle.sched_program.specs.Program.{Program, IsWithinLimits, IsUserKey, op_at, key_of}
 use Rattle.sched_program.specs.History.{History, IsHistory, IsHistoryOf}
 
 module _ (p : Program) (limits : IsWithinLimits p) (t i : ℕ) where
-  in_thread : (o : Op) (thread : Option (List Op)) → slice_get p.threads t ≡ thread
-      → option_and_then (λ ops. slice_get ops i) thread ≡ Some o → (t < 4) × (i < 6) × IsUserKey (key_of o)
-  in_thread o None e h = absurd cc
-  in_thread o (Some ops) e h =
+  -- an operation of a program has a small name and a user key
+  pub op_limited : (o : Op) → op_at p t i ≡ Some o → (t < 4) × (i < 6) × IsUserKey (key_of o)
+  op_limited o h =
+      option_and_then_some (λ ops. slice_get ops i) (slice_get p.threads t) o h (λ ops e found.
       let at = slice_get_within p.threads t ops e in
       let is = get_or_from_slice_get p.threads t ops ops e in
       let short : length ops ≤ 6 = (rw is at (limits.op_counts t ops at)).1 in
-      let within = slice_get_within ops i o h in
+      let within = slice_get_within ops i o found in
       let key = (rw is at (limits.op_keys t ops at)) i o within in
-      (omega (arith, limits.thread_count), omega arith, rw (get_or_from_slice_get ops i o o h) at key)
-
-  -- an operation of a program has a small name and a user key
-  pub op_limited : (o : Op) → op_at p t i ≡ Some o → (t < 4) × (i < 6) × IsUserKey (key_of o)
-  op_limited o h = in_thread o (slice_get p.threads t) refl h
+      (omega (arith, limits.thread_count), omega arith, rw (get_or_from_slice_get ops i o o found) at key))
 
   named : (o : Option Op) → op_at p t i ≡ o → IsSome o → (t < 4) × (i < 6)
   named None e h = absurd cc

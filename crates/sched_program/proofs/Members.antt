@@ -1,9 +1,9 @@
 -- What the members of a program's text are, and are not.
-use Rattle.std.proofs.Common.{◌≡◌, ◌≢◌, ℕ, ◌≤◌, List, [], ◌∷◌, ◌++◌, length, map, arith, sym, ap, ◌∙◌, All}
+use Rattle.std.proofs.Common.{◌≡◌, ◌≢◌, ℕ, ◌≤◌, List, ◌++◌, length, map, arith, sym, ap, ◌∙◌, All}
 use Rattle.std.proofs.Common.{AllPairs, Bool, Option, true, false, MatchBool, codes}
 use Rattle.std.proofs.lemmas.List.Sums.{sum-map}
 use Rattle.std.specs.List.{AllByRecursion}
-use Rattle.serde_json.specs.Data.{Data, Members, unsigned, number, object}
+use Rattle.serde_json.specs.Data.{Data, Members, object}
 use Rattle.sched_program.specs.declared.reader.OpWord.{OpWord}
 use Rattle.sched_program.specs.declared.reader.OpWord.TheVariants.{Insert}
 use Rattle.sched_program.specs.declared.operation.Op.{Op}
@@ -27,7 +27,7 @@ keys_bounded_within value bounded =
 
 -- a value is one key at most
 pub same_key : IsUnique IsKey
-same_key value a b is also = let e : number (unsigned a) ≡ number (unsigned b) = sym is.0 ∙ also.0 in cc
+same_key value a b is also = cc (is.0, also.0)
 
 -- a list has one number of items
 pub same_counted : IsUnique IsListOfCount
@@ -57,12 +57,6 @@ pub no_keys : (value : Data) → HasWords value → ((threads : List (List Op)) 
 no_keys value words none keys =
     let each = list_both HasWord HasKey IsOp op_joined in
     let found = list_both _ _ (IsListOf IsOp) each value words.0 keys.0 words.1 keys.1 in none found.0 found.1
-
--- one more of a list
-pub one_more : {A : Type 0} (P : A → Type 0) (xs : List A) (x : A) → AllByRecursion P xs → P x
-    → AllByRecursion P (xs ++ x ∷ [])
-one_more P [] x all here = (here, tt)
-one_more P (y ∷ ys) x all here = (all.0, one_more P ys x all.1 here)
 
 -- a value's counts fit if those that were read do
 pub counts_fit : (value : Data) (counts : List ℕ) (fit : Bool) → IsListOf IsListOfCount value counts

@@ -6,7 +6,7 @@ use Rattle.std.proofs.lemmas.List.Sums.{sum-map}
 use Rattle.std.proofs.lemmas.List.Elements.{All-map}
 use Rattle.serde_json.specs.Find.{get}
 use Rattle.serde_json.specs.Read.{read}
-use Rattle.serde_json.specs.Data.{Data, unsigned, item, no_items, number, string, array, object, Members}
+use Rattle.serde_json.specs.Data.{Data, string, object, Members}
 use Rattle.sched_program.specs.declared.operation.Op.{Op}
 use Rattle.sched_program.specs.declared.operation.Op.TheVariants as op
 use Rattle.sched_program.specs.declared.operation.Tree.{Tree}
@@ -20,7 +20,7 @@ use Rattle.sched_program.specs.declared.fault.ProgramFault.{ProgramFault}
 use Rattle.sched_program.specs.declared.fault.ProgramFault.TheVariants as fault
 use Rattle.sched_program.specs.Program.{Program, key_of}
 use Rattle.sched_program.specs.Text.{IsListOf, IsKey, IsOp, IsTurn, HasThreads, HasTurn, HasTurns, HasVersion}
-use Rattle.sched_program.specs.Text.{version_number, op_of, word_of, word_text, tree_name, IsTextOf}
+use Rattle.sched_program.specs.Text.{op_of, word_of, word_text, tree_name, IsTextOf}
 use Rattle.sched_program.specs.Text.{IsJsonTextOf}
 use Rattle.sched_program.specs.Faults.{Passes, IsFirstFault}
 use Rattle.sched_program.proofs.Values.{IsUnique, same_list, same_member}
@@ -29,7 +29,7 @@ use Rattle.sched_program.proofs.Members.{same_key, threads_pass}
 -- a name has one text
 same_text : (name : List ℕ) (value : Data) (a b : List ℕ) → get name value ≡ Some (string a)
     → get name value ≡ Some (string b) → a ≡ b
-same_text name value a b is also = let e : string a ≡ string b = same_Some _ _ (sym is ∙ also) in cc
+same_text name value a b is also = cc
 
 same_word_text : (a b : OpWord) → word_text a ≡ word_text b → a ≡ b
 same_word_text Insert Insert e = refl
@@ -62,21 +62,13 @@ pub same_threads : IsUnique HasThreads
 same_threads =
     same_member (IsListOf (IsListOf IsOp)) (codes "threads") (same_list (IsListOf IsOp) (same_list IsOp same_op))
 
-same_number : (a b : Version) → version_number a ≡ version_number b → a ≡ b
-same_number First First e = refl
-same_number Second Second e = refl
-same_number a b e = absurd (omega (arith, e))
-
 pub same_version : IsUnique HasVersion
-same_version value a b is also =
-    let e : number (unsigned (version_number a)) ≡ number (unsigned (version_number b)) =
-    same_Some _ _ (sym is ∙ also) in
-    same_number a b (cc)
+same_version value First First is also = refl
+same_version value Second Second is also = refl
+same_version value a b is also = cc
 
 same_as_turn : IsUnique IsTurn
 same_as_turn value a b is also =
-    let e : array (item (number (unsigned a.thread)) (item (number (unsigned a.count)) no_items))
-    ≡ array (item (number (unsigned b.thread)) (item (number (unsigned b.count)) no_items)) = sym is ∙ also in
     let thread : a.thread ≡ b.thread = cc in
     let count : a.count ≡ b.count = cc in
     λ j. record { thread = thread j; count = count j }
@@ -84,10 +76,9 @@ same_as_turn value a b is also =
 same_wait : (version : Version) → IsUnique (HasTurn version)
 same_wait First value a b is also = is ∙ sym also
 same_wait Second value None None is also = refl
-same_wait Second value None (Some b) is also = absurd (let e : None ≡ Some also.0 = sym is ∙ also.1 in cc)
-same_wait Second value (Some a) None is also = absurd (let e : None ≡ Some is.0 = sym also ∙ is.1 in cc)
 same_wait Second value (Some a) (Some b) is also =
     ap Some (same_member IsTurn (codes "after") same_as_turn value a b is also)
+same_wait Second value a b is also = cc
 
 pub same_turns : (version : Version) → IsUnique (HasTurns version)
 same_turns version =
@@ -123,7 +114,6 @@ all_threads_pass value program is =
 
 -- a text passes each test
 passes_all : (value : Data) (program : Program) → IsTextOf value program → (fault : ProgramFault) → Passes value fault
-passes_all value program is fault.NotJson = tt
 passes_all value program is fault.NotObject = has_members (codes "version") value _ is.has_version
 passes_all value program is fault.Version = (is.version, is.has_version)
 passes_all value program is fault.Tree = (program.tree, is.tree)
@@ -137,7 +127,7 @@ passes_all value program is fault.Op = (all_threads_pass value program is).2
 passes_all value program is fault.Key = (all_threads_pass value program is).3
 passes_all value program is fault.After =
     (is.version, program.threads, program.turns, is.has_version, is.threads, is.turns, is.limits.turns)
-passes_all value program is fault.OutOfMemory = tt
+passes_all value program is other = tt
 
 -- a text has no first fault but a refusal of memory
 no_fault : (value : Data) (program : Program) (stated : ProgramFault) → IsTextOf value program

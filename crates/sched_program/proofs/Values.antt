@@ -78,11 +78,9 @@ module _ {A : Type 0} (StandsFor : Data → A → Type 0) where
   Each-same : IsUnique StandsFor → (values : Items) (xs ys : List A) → Each StandsFor values xs
       → Each StandsFor values ys → xs ≡ ys
   Each-same one no_items [] [] all also = refl
-  Each-same one no_items [] (y ∷ ys) all also = absurd also
-  Each-same one (item value values) (x ∷ xs) [] all also = absurd also
   Each-same one (item value values) (x ∷ xs) (y ∷ ys) all also =
       rw (one value x y all.0 also.0, Each-same one values xs ys all.1 also.1)
-  Each-same one values xs ys all also = absurd all
+  Each-same one values xs ys all also = absurd (grind arith)
 
   pub same_list : IsUnique StandsFor → IsUnique (IsListOf StandsFor)
   same_list one value xs ys list also =
@@ -109,12 +107,11 @@ module _ {A B C : Type 0} (One : Data → A → Type 0) (Other : Data → B → 
   Each-both : (values : Items) (xs : List A) (ys : List B) → Each One values xs → Each Other values ys
       → (zs : List C) × Each Whole values zs
   Each-both no_items xs ys all also = ([], tt)
-  Each-both (item value values) [] ys all also = absurd all
-  Each-both (item value values) (x ∷ xs) [] all also = absurd also
   Each-both (item value values) (x ∷ xs) (y ∷ ys) all also =
       let here = joined value x y all.0 also.0 in
       let there = Each-both values xs ys all.1 also.1 in
       (here.0 ∷ there.0, (here.1, there.1))
+  Each-both values xs ys all also = absurd (grind arith)
 
   -- a list whose values stand for the pieces stands for the wholes
   pub list_both : (value : Data) (xs : List A) (ys : List B) → IsListOf One value xs → IsListOf Other value ys

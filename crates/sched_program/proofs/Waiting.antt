@@ -1,6 +1,6 @@
 -- What the operations of a text wait for, and where that is not within the limits.
 use Rattle.std.proofs.Common.{◌≡◌, ℕ, ◌<◌, ◌≤◌, List, [], length, get_or, slice_get, arith, sym}
-use Rattle.std.proofs.Common.{ap, ◌∙◌, inl, inr, Option, Some, None, IfSome, IfNone, Result, Ok, Err, IfOk, All, codes}
+use Rattle.std.proofs.Common.{ap, ◌∙◌, Option, Some, None, IfSome, IfNone, Result, Ok, IfOk, All, codes}
 use Rattle.std.proofs.lemmas.Option.{same_Some, slice_get_within, get_or_from_slice_get}
 use Rattle.std.proofs.lemmas.Bool.{cases_lt}
 use Rattle.std.proofs.lemmas.List.{get_or_default, get_or_past}
@@ -38,30 +38,21 @@ module _ (value : Data) (version : Version) (threads : List (List Op)) (of_versi
   not_within turns are not =
       nowhere_within (λ others also within. not (rw (same_turns version value others turns also are) at within))
 
--- what the member with the threads is a list of, the value has
-pub listed : {Refusal : Type 0} (version known : Version) (value threads : Data)
+-- where the member with the threads is no list of turns, the value has none
+pub unlisted : {Refusal : Type 0} (version known : Version) (value threads : Data)
     (answer : Result (Option (List (List (Option Turn)))) Refusal) → version ≡ known
     → Some threads ≡ get (codes "threads") value
-    → IfOk answer (λ found. IfSome found (IsListOf (IsListOf (HasTurn known)) threads))
     → IfOk answer (λ found. IfNone found ((turns : List (List (Option Turn)))
     → ¬ IsListOf (IsListOf (HasTurn known)) threads turns))
-    → IfOk answer (λ found. IfSome found (HasTurns version value))
-    × IfOk answer (λ found. IfNone found ((turns : List (List (Option Turn))) → ¬ HasTurns version value turns))
-listed version known value threads (Ok None) is at found none = (
-  tt,
-  λ turns has. none turns
-      (of_member (λ member. IsListOf (IsListOf (HasTurn known)) member turns) (codes "threads") value threads at
-      (rw is at has)),
-)
-listed version known value threads (Ok (Some x)) is at found none = (rw is (threads, sym at, found), tt)
-listed version known value threads (Err e) is at found none = (tt, tt)
+    → IfOk answer (λ found. IfNone found ((turns : List (List (Option Turn))) → ¬ HasTurns version value turns))
+unlisted version known value threads (Ok None) is at none = λ turns has. none turns
+    (of_member (λ member. IsListOf (IsListOf (HasTurn known)) member turns) (codes "threads") value threads at
+    (rw is at has))
+unlisted version known value threads answer is at none = tt
 
 ops_bounded : (threads : List (List Op)) (k : ℕ) → All (λ ops. (1 ≤ length ops) × (length ops ≤ 6)) threads
     → length (get_or threads k []) ≤ 6
-ops_bounded threads k all = elim (cases_lt k (length threads)) [
-  | inl within ↦ (all k [] within).1
-  | inr past ↦ rw (get_or_past threads k [] past) (omega arith)
-]
+ops_bounded threads k all = grind (arith, cases_lt k (length threads), get_or_past threads k [], all k [])
 
 -- the numbers of a turn are small
 pub small_turn : (threads : List (List Op)) (turns : List (List (Option Turn))) (t i : ℕ) (row : List (Option Turn))

@@ -49,16 +49,16 @@ fn names_ascend<V>(entries: &[(OpId, V)]) -> bool
     true
 }
 
-/// Whether an operation is begun.
-fn is_begun(begun: &[(OpId, Note)], name: OpId) -> bool
-    ensures { IsTrue result ↔ IsSome (value_at begun.now name) }
+/// The value beside a name, if there is one.
+pub fn value_of<V: Copy>(entries: &[(OpId, V)], name: OpId) -> Option<V>
+    ensures { result ≡ value_at entries.now name }
 {
-    for (other, _) in begun {
+    for (other, value) in entries {
         if *other == name {
-            return true;
+            return Some(*value);
         }
     }
-    false
+    None
 }
 
 /// Whether all names are the program's.
@@ -79,7 +79,9 @@ fn notes_have(count: usize, begun: &[(OpId, Note)]) -> bool
 fn are_begun(begun: &[(OpId, Note)], finished: &[(OpId, bool)]) -> bool
     ensures { IsTrue result ↔ All (λ e. IsSome (value_at begun.now e.0)) finished.now }
 {
-    finished.iter().all(|(name, _)| is_begun(begun, *name))
+    finished
+        .iter()
+        .all(|(name, _)| value_of(begun, *name).is_some())
 }
 
 /// Whether the lists are a history of the program.

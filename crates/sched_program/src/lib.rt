@@ -18,7 +18,7 @@ mod version;
 pub use crate::counted::{Counted, ReadFault};
 pub use crate::exact::{Exact, same};
 pub use crate::fault::ProgramFault;
-pub use crate::history::{History, Note};
+pub use crate::history::{History, Note, value_of};
 pub use crate::loading::LoadFault;
 pub use crate::operation::{Op, OpId, Tree, Turn};
 pub use crate::program::Program;

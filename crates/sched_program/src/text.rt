@@ -123,6 +123,7 @@ fn are_op_counts(counts: &[usize]) -> bool
 }
 
 /// Whether the threads of a list are lists, and have permitted numbers of operations.
+#[tactic(auto, using(crate::proofs::Members::counts_fit))]
 fn has_op_counts(alloc: Global, threads: &Value) -> Result<bool, OutOfMemory>
     ensures { IfOk result (λ passes. MatchBool passes (HasOpCounts (view threads.now))
         (¬ HasOpCounts (view threads.now))) }

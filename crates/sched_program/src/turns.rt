@@ -19,6 +19,7 @@ use std::alloc::Global;
 type Turns = Sequence<Sequence<Option<Turn>>>;
 
 /// The turn that a value is.
+#[tactic(auto, using(crate::proofs::Waiting::two_numbers))]
 fn turn_of(value: &Value) -> Option<Turn>
     ensures found { IfSome result (IsTurn (view value.now)) }
     ensures none { IfNone result ((turn : Turn) → ¬ IsTurn (view value.now) turn) }
@@ -110,6 +111,7 @@ fn may_wait(threads: &[Sequence<Op>], thread: usize, turns: &[Option<Turn>]) -> 
 }
 
 /// Whether all operations that wait may do so.
+#[tactic(auto, using(crate::proofs::Waiting::row_at))]
 fn are_turns_within(threads: &[Sequence<Op>], turns: &[Sequence<Option<Turn>>]) -> bool
     ensures { MatchBool result (AreTurnsWithin threads.now turns.now) (¬ AreTurnsWithin threads.now turns.now) }
 {

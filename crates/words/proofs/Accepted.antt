@@ -5,10 +5,10 @@ use Rattle.std.specs.Prelude.{fold, find, slice_get}
 use Rattle.std.specs.List.{AllByRecursion, list_any}
 use Rattle.std.specs.Option.{option_map_or}
 use Rattle.std.specs.Str.{bytes_eq}
+use Rattle.std.proofs.ByRecursion.{All-append}
 use Rattle.std.proofs.lemmas.List.Folds.{list_any-append}
 use Rattle.clap.specs.Matches.{count_text}
-use Rattle.std.proofs.lemmas.Bool.{and_parts, cases_Bool, cond_both, false≢true, not-false, or_cases, or_parts}
-use Rattle.std.proofs.lemmas.Bool.{or_right}
+use Rattle.std.proofs.lemmas.Bool.{and_parts, cases_Bool, cond_both, not-false, or_cases, or_parts}
 use Rattle.std.proofs.lemmas.Bool.Decides.{nat_tests}
 use Rattle.std.proofs.lemmas.Slice.Eq.{bytes_eq-Decides}
 use Rattle.clap.specs.Faults.{action_fault, default_fault, defaults_fault, given_default_fault, settle_fault, use_fault}
@@ -26,24 +26,29 @@ use Rattle.clap.specs.declared.error.kind.ErrorKind.{ErrorKind}
 use Rattle.clap.specs.declared.parser.matches.ValueSource.{ValueSource}
 use Rattle.clap.specs.declared.parser.matches.ValueSource.TheVariants.{DefaultValue, CommandLine}
 
--- the row holds a value of the argument, which its parser takes
-pub record IsFilled (a : Rule) (r : Row) : Type 0 where
-  pub reading : r.reading ≡ reading_by a
-  pub text : Text
-  pub first : slice_get r.values 0 ≡ Some text
-  pub passes : value_passes a text ≡ true
+-- the values begin with one that the argument's parser takes
+abbrev pub Begins : Rule → List Text → Type 0
+Begins a values = (text : Text) × (slice_get values 0 ≡ Some text) × (value_passes a text ≡ true)
 
--- if the row is of an argument that is set, it holds such a value
+-- the row holds such values of the argument
+abbrev pub IsFilled : Rule → Row → Type 0
+IsFilled a r = (r.reading ≡ reading_by a) × Begins a r.values
+
+-- if the row is of an argument that is set, it is filled
 abbrev pub Suits : List Rule → Row → Type 0
 Suits c r = (a : Rule) → arg_by_id c r.id ≡ Some a → action_of a ≡ action.Set → IsFilled a r
 
 abbrev pub Suit : List Rule → List Row → Type 0
 Suit c rows = AllByRecursion (Suits c) rows
 
+-- where there is no fault, the rows suit if they did
+abbrev pub Keeps : List Rule → Kinds → List Row → List Row → Type 0
+Keeps c fault old new = fault ≡ [] → Suit c old → Suit c new
+
 -- the argument is the first of its id, and where it is set, a use of it has a value
-pub record IsRegular (c : List Rule) (a : Rule) : Type 0 where
-  pub own : arg_by_id c a.id ≡ Some a
-  pub valued : action_of a ≡ action.Set → (unwrap_or_range a.range).start_inclusive ≡ 1
+abbrev pub IsRegular : List Rule → Rule → Type 0
+IsRegular c a = (arg_by_id c a.id ≡ Some a)
+    × (action_of a ≡ action.Set → (unwrap_or_range a.range).start_inclusive ≡ 1)
 
 abbrev pub AreRegular : List Rule → Type 0
 AreRegular c = AllByRecursion (IsRegular c) c
@@ -87,15 +92,10 @@ none_unless : (b : Bool) (k : ErrorKind) → cond b [] (k ∷ []) ≡ [] → b �
 none_unless true k h = refl
 none_unless false k h = absurd (cc)
 
-first_passes : (a : Rule) (v : Text) (vs : List Text) → values_fault a (v ∷ vs) ≡ [] → value_passes a v ≡ true
-first_passes a v vs h =
-    none_unless _ _ (none_of (value_kinds a.ignore_case (parser_of_value a.parser) v) _ h).0
+begins : (a : Rule) (v : Text) (vs : List Text) → values_fault a (v ∷ vs) ≡ [] → Begins a (v ∷ vs)
+begins a v vs h = (v, refl, none_unless _ _ (none_of (value_kinds a.ignore_case (parser_of_value a.parser) v) _ h).0)
 
 -- ---- a change of one row
-
-appended : (c : List Rule) (xs ys : List Row) → Suit c xs → Suit c ys → Suit c (xs ++ ys)
-appended c [] ys first rest = rest
-appended c (x ∷ xs) ys first rest = (first.0, appended c xs ys first.1 rest)
 
 changed : (c : List Rule) (id : Text) (change : Row → List Row) (missing rows : List Row)
     → ((r : Row) → Suits c r → Suit c (change r)) → Suit c missing → Suit c rows
@@ -103,49 +103,31 @@ changed : (c : List Rule) (id : Text) (change : Row → List Row) (missing rows 
 changed c id change missing [] on_change new suit = new
 changed c id change missing (r ∷ rs) on_change new suit =
     cond_both (bytes_eq r.id id) (change r ++ rs) (r ∷ at_row id change missing rs) (Suit c)
-    (λ _. appended c (change r) rs (on_change r suit.0) suit.1)
+    (λ _. All-append (Suits c) (change r) rs (on_change r suit.0) suit.1)
     (λ _. (suit.0, changed c id change missing rs on_change new suit.1))
 
 first_stays : (xs ys : List Text) (text : Text) → slice_get xs 0 ≡ Some text → slice_get (xs ++ ys) 0 ≡ Some text
 first_stays [] ys text is = absurd (cc)
 first_stays (x ∷ xs) ys text is = is
 
--- a row of the argument suits, if it holds a value where the argument is set
-new_suits : (c : List Rule) (a : Rule) (r : Row) → arg_by_id c a.id ≡ Some a → r.id ≡ a.id
-    → (action_of a ≡ action.Set → IsFilled a r) → Suits c r
-new_suits c a r own same filled b is set =
-    let one : a ≡ b = cc in rw (← one) (filled (ap action_of one ∙ set))
-
 more_suits : (c : List Rule) (r : Row) (more : List Text) (count : Option ℕ) (source : Option ValueSource) → Suits c r
     → Suits c (record r { values = r.values ++ more; count = count; source = source })
 more_suits c r more count source suits a is set =
-    let was = suits a is set in
-    record {
-      reading = was.reading;
-      text = was.text;
-      first = first_stays r.values more was.text was.first;
-      passes = was.passes;
-    }
+    let (reading, (text, first, passes)) = suits a is set in
+    (reading, (text, first_stays r.values more text first, passes))
 
 module _ (c : List Rule) (a : Rule) (own : arg_by_id c a.id ≡ Some a) where
-  -- the values begin with one that the argument's parser takes
-  abbrev BeginsWell : List Text → Type 0
-  BeginsWell values = (text : Text) × (slice_get values 0 ≡ Some text) × (value_passes a text ≡ true)
-
-  new_row : ValueSource → List Text → Option ℕ → Row
+  abbrev new_row : ValueSource → List Text → Option ℕ → Row
   new_row s values count = record { id = a.id; values = values; count = count; source = Some s; reading = reading_by a }
 
   new_row_suits : (s : ValueSource) (values : List Text) (count : Option ℕ)
-      → (action_of a ≡ action.Set → BeginsWell values)
-      → Suits c (new_row s values count)
-  unfolding new_row
-  new_row_suits s values count value = new_suits c a (new_row s values count) own refl (λ set.
-      let v = value set in record { reading = refl; text = v.0; first = v.1; passes = v.2 })
+      → (action_of a ≡ action.Set → Begins a values) → Suits c (new_row s values count)
+  new_row_suits s values count value b is set =
+      let one : a ≡ b = cc in rw (← one) (refl, value (ap action_of one ∙ set))
 
   pub values_suit : (s : ValueSource) (values : List Text) (rows : List Row)
-      → (action_of a ≡ action.Set → BeginsWell values)
-      → Suit c rows → Suit c (with_values a.id (reading_by a) s values rows)
-  unfolding new_row
+      → (action_of a ≡ action.Set → Begins a values) → Suit c rows
+      → Suit c (with_values a.id (reading_by a) s values rows)
   values_suit s values rows value suit =
       changed c a.id (more_values s values) (new_row s values None ∷ []) rows
       (λ r suits. (more_suits c r values r.count (Some (stronger r.source s)) suits, tt {0}))
@@ -153,7 +135,6 @@ module _ (c : List Rule) (a : Rule) (own : arg_by_id c a.id ≡ Some a) where
 
   pub count_suits : (s : ValueSource) (n : ℕ) (rows : List Row) → (action_of a ≡ action.Set → ⊥)
       → Suit c rows → Suit c (with_count a.id (reading_by a) s n rows)
-  unfolding new_row
   count_suits s n rows none suit =
       changed c a.id (new_count s n) (new_row s (count_text n ∷ []) (Some n) ∷ []) rows
       (λ r suits. (more_suits c r (count_text n ∷ []) (Some n) (Some (stronger r.source s)) suits, tt {0}))
@@ -165,42 +146,41 @@ module _ (c : List Rule) (a : Rule) (own : arg_by_id c a.id ≡ Some a) where
 module _ (c : List Rule) (again : Bool) (a : Rule) (regular : IsRegular c a) where
   -- a use of an argument that is set has a first value, which passes
   set_begins : (values : List Text) (rows : List Row) → action_of a ≡ action.Set → use_fault again a values rows ≡ []
-      → BeginsWell c a regular.own (values_or_missing a values)
+      → Begins a (values_or_missing a values)
   set_begins [] rows set none =
       let range = (none_of (range_kinds (unwrap_or_range a.range).start_inclusive (most_values a) 0) _ none).0 in
-      let bad = rw (regular.valued set) at range in absurd (cc)
+      let bad = rw (regular.1 set) at range in absurd (cc)
   set_begins (v ∷ vs) rows set none =
       let range = range_kinds (unwrap_or_range a.range).start_inclusive (most_values a) (length (v ∷ vs)) in
       let acts : action_fault action.Set again a (v ∷ vs) rows ≡ [] = rw set at (none_of range _ none).1 in
-      (v, refl, first_passes a v vs (none_of _ (values_fault a (v ∷ vs)) acts).1)
+      begins a v vs (none_of _ (values_fault a (v ∷ vs)) acts).1
 
   -- a use that takes the place of the earlier ones
-  used_once : (values : List Text) (rows : List Row) → (action_of a ≡ action.Set → BeginsWell c a regular.own values)
-      → Suit c rows → Suit c (with_values a.id (reading_by a) CommandLine values (without a.id rows))
+  used_once : (values : List Text) (rows : List Row) → (action_of a ≡ action.Set → Begins a values) → Suit c rows
+      → Suit c (with_values a.id (reading_by a) CommandLine values (without a.id rows))
   used_once values rows begins suit =
-      values_suit c a regular.own CommandLine values (without a.id rows) begins
-      (without_suits c a regular.own rows suit)
+      values_suit c a regular.0 CommandLine values (without a.id rows) begins
+      (without_suits c a regular.0 rows suit)
 
   counted_suits : (values : List Text) (rows : List Row) → (action_of a ≡ action.Set → ⊥) → Suit c rows
       → Suit c (counted a.id (reading_by a) values rows)
   counted_suits [] rows not_set suit =
-      count_suits c a regular.own CommandLine (min (count_of a.id rows + 1) 255) (without a.id rows) not_set
-      (without_suits c a regular.own rows suit)
+      count_suits c a regular.0 CommandLine (min (count_of a.id rows + 1) 255) (without a.id rows) not_set
+      (without_suits c a regular.0 rows suit)
   counted_suits (v ∷ vs) rows not_set suit = used_once (v ∷ vs) rows (λ set. absurd (not_set set)) suit
 
   used_as_suits : (x : ArgAction) → action_of a ≡ x → (values : List Text) (rows : List Row)
-      → (x ≡ action.Set → BeginsWell c a regular.own values) → Suit c rows
-      → Suit c (used_as x a.id (reading_by a) values rows)
+      → (x ≡ action.Set → Begins a values) → Suit c rows → Suit c (used_as x a.id (reading_by a) values rows)
   used_as_suits action.Set is values rows value suit = used_once values rows (λ set. value refl) suit
   used_as_suits action.SetTrue is values rows value suit = used_once values rows (λ set. absurd (cc)) suit
   used_as_suits action.SetFalse is values rows value suit = used_once values rows (λ set. absurd (cc)) suit
   used_as_suits action.Append is values rows value suit =
-      values_suit c a regular.own CommandLine values rows (λ set. absurd (cc)) suit
+      values_suit c a regular.0 CommandLine values rows (λ set. absurd (cc)) suit
   used_as_suits action.Count is values rows value suit = counted_suits values rows (λ set. (cc)) suit
   used_as_suits x is values rows value suit = suit
 
-  pub used_suits : (values : List Text) (rows : List Row) → use_fault again a values rows ≡ [] → Suit c rows
-      → Suit c (used a values rows)
+  pub used_suits : (values : List Text) (rows : List Row)
+      → Keeps c (use_fault again a values rows) rows (used a values rows)
   used_suits values rows none suit =
       used_as_suits (action_of a) refl (values_or_missing a values) rows (λ set. set_begins values rows set none) suit
 
@@ -210,7 +190,7 @@ not_empty v vs = grind (arith, nat_tests)
 -- ---- what is pending, and the defaults
 
 module _ (c : List Rule) (again : Bool) (regular : AreRegular c) where
-  pub settled_suit : (h : Held) → settle_fault c again h ≡ [] → Suit c h.rows → Suit c (settled c h).rows
+  pub settled_suit : (h : Held) → Keeps c (settle_fault c again h) h.rows (settled c h).rows
   settled_suit h none suit = go h.pending none
     where
       by_id : (o : Option Rule) (id : Text) (values : List Text) → arg_by_id c id ≡ o
@@ -225,8 +205,8 @@ module _ (c : List Rule) (again : Bool) (regular : AreRegular c) where
       go None none = suit
       go (Some q) none = by_id (arg_by_id c q.0) q.0 q.1 refl none
 
-  default_suits : (a : Rule) (rows : List Row) → IsRegular c a → default_fault rows a ≡ [] → Suit c rows
-      → Suit c (with_default rows a)
+  default_suits : (a : Rule) (rows : List Row) → IsRegular c a
+      → Keeps c (default_fault rows a) rows (with_default rows a)
   default_suits a rows own none suit =
       cond_both (has_row a.id rows) rows (default_rows a.id (reading_by a) a.defaults rows) (Suit c) (λ _. suit)
       (λ missing. given a.defaults (rw missing at none))
@@ -236,13 +216,11 @@ module _ (c : List Rule) (again : Bool) (regular : AreRegular c) where
       given [] none = suit
       given (v ∷ vs) fault =
           let none : given_default_fault a (v ∷ vs) ≡ [] = rw (not_empty v vs) at fault in
-          let passes = first_passes a v vs (none_of (request_kinds (action_of a)) (values_fault a (v ∷ vs)) none).1 in
-          values_suit c a own.own DefaultValue (v ∷ vs) rows (λ set. (v, refl, passes)) suit
+          let first = begins a v vs (none_of (request_kinds (action_of a)) (values_fault a (v ∷ vs)) none).1 in
+          values_suit c a own.0 DefaultValue (v ∷ vs) rows (λ set. first) suit
 
   pub defaults_suit : (rules : List Rule) (rows : List Row) → AllByRecursion (IsRegular c) rules
-      → defaults_fault rows rules ≡ []
-      → Suit c rows
-      → Suit c (fold with_default rows rules)
+      → Keeps c (defaults_fault rows rules) rows (fold with_default rows rules)
   unfolding defaults_fault
   defaults_suit [] rows own none suit = suit
   defaults_suit (a ∷ rest) rows own none suit =
@@ -259,9 +237,6 @@ at_row_last id change missing (r ∷ rs) none =
     let each = or_parts (bytes_eq r.id id) (has_row id rs) none in
     rw each.0 (ap (λ l. r ∷ l) (at_row_last id change missing rs each.1))
 
-has_id : (id : Text) → bytes_eq id id ≡ true
-has_id id = (bytes_eq-Decides id id).1 refl
-
 -- the argument has this id, and default values
 abbrev pub defaults_to : Text → Rule → Bool
 defaults_to i a = bytes_eq a.id i && not (is_empty a.defaults)
@@ -273,28 +248,20 @@ default_row i a rows has =
     cond_both (has_row a.id rows) rows (default_rows a.id (reading_by a) a.defaults rows) (λ l. has_row i l ≡ true)
     (λ there. elim (or_cases (has_row i rows) (defaults_to i a) has) [
       | inl here ↦ here
-      | inr own ↦ rw (← same (not (is_empty a.defaults)) own) there
+      | inr own ↦ rw (← (bytes_eq-Decides a.id i).0 (and_parts (bytes_eq a.id i) _ own).0) there
     ])
     (λ none. made none a.defaults has)
   where
-    same : (b : Bool) → (bytes_eq a.id i && b) ≡ true → a.id ≡ i
-    same b own = (bytes_eq-Decides a.id i).0 (and_parts (bytes_eq a.id i) b own).0
-
     made : has_row a.id rows ≡ false → (values : List Text)
         → (has_row i rows || (bytes_eq a.id i && not (is_empty values))) ≡ true
         → has_row i (default_rows a.id (reading_by a) values rows) ≡ true
-    made none [] has = elim (or_cases (has_row i rows) (bytes_eq a.id i && false) has) [
-      | inl here ↦ here
-      | inr own ↦ absurd (false≢true (and_parts (bytes_eq a.id i) false own).1)
-    ]
+    made none [] has = grind (arith, cases_Bool (has_row i rows), cases_Bool (bytes_eq a.id i))
     made none (v ∷ vs) has =
-        rw (at_row_last a.id (more_values DefaultValue (v ∷ vs)) _ rows none)
-        (list_any-append (λ r. bytes_eq r.id i) rows _
-        ∙ (elim (or_cases (has_row i rows) (bytes_eq a.id i && not (is_empty (v ∷ vs))) has) [
-          | inl here ↦ rw here
-          | inr own ↦ or_right (has_row i rows) (bytes_eq a.id i || false)
-              (rw (← same (not (is_empty (v ∷ vs))) own, has_id a.id))
-        ]))
+        rw (
+          at_row_last a.id (more_values DefaultValue (v ∷ vs)) _ rows none,
+          list_any-append (λ r. bytes_eq r.id i) rows,
+        )
+        (grind (arith, cases_Bool (has_row i rows), cases_Bool (bytes_eq a.id i)))
 
 -- an argument of this id has default values
 abbrev pub has_default : Text → List Rule → Bool
@@ -325,8 +292,8 @@ required_given rows rules i a none is required =
 
 -- the row of an argument that is set holds a value of it
 pub filled : (c : List Rule) (rows : List Row) (i : Text) (a : Rule) → Suit c rows → has_row i rows ≡ true
-    → arg_by_id c i ≡ Some a
-    → action_of a ≡ action.Set → (r : Row) × (find (λ x. bytes_eq x.id i) rows ≡ Some r) × IsFilled a r
+    → arg_by_id c i ≡ Some a → action_of a ≡ action.Set
+    → (r : Row) × (find (λ x. bytes_eq x.id i) rows ≡ Some r) × IsFilled a r
 filled c rows i a suit has is set =
     there (find (λ x. bytes_eq x.id i) rows) refl (sym (any_is_found (λ x. bytes_eq x.id i) rows) ∙ has)
   where

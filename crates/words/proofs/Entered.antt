@@ -18,7 +18,7 @@ use Rattle.clap.specs.Walk.{option, option_met, option_word, plain, plain_word, 
 use Rattle.clap.specs.Walk.{short_met, short_or_plain, subcommand, subcommand_met, subcommand_or_other, takes_several}
 use Rattle.clap.specs.Walk.{takes_values, to_positional, trailing, value, waits, walked, walked_from, word_met}
 use Rattle.clap.specs.declared.error.kind.ErrorKind.TheVariants as kind
-use Rattle.words.proofs.Accepted.{AreRegular, IsRegular, Suit, found, none_of, none_where, settled_suit}
+use Rattle.words.proofs.Accepted.{AreRegular, IsRegular, Keeps, Suit, found, none_of, none_where, settled_suit}
 use Rattle.words.proofs.Accepted.{used_suits}
 
 -- ---- one word
@@ -49,19 +49,19 @@ module _ (c : List Rule) (p : Text → Bool) where
   after_met waiting word h out suit = plain_met waiting word h suit
 
 module _ (c : List Rule) (again : Bool) (regular : AreRegular c) where
-  react_suits : (a : Rule) → IsRegular c a → (values : List Text) (h : Held) → react_fault c again a values h ≡ []
-      → Suit c h.rows → Suit c (reacted c a values h).rows
+  react_suits : (a : Rule) → IsRegular c a → (values : List Text) (h : Held)
+      → Keeps c (react_fault c again a values h) h.rows (reacted c a values h).rows
   react_suits a own values h none suit =
       let each = none_of (settle_fault c again h) (use_fault again a values (settled c h).rows) none in
       used_suits c again a own values (settled c h).rows each.1 (settled_suit c again regular h each.0 suit)
 
-  option_suits : (a : Rule) → IsRegular c a → (v : Option Text) (h : Held) → option_fault c again a v h ≡ []
-      → Suit c h.rows → Suit c (option_met c a v h).0.rows
+  option_suits : (a : Rule) → IsRegular c a → (v : Option Text) (h : Held)
+      → Keeps c (option_fault c again a v h) h.rows (option_met c a v h).0.rows
   option_suits a own (Some v) h none suit = react_suits a own (v ∷ []) h none suit
   option_suits a own None h none suit = settled_suit c again regular h none suit
 
   long_suits : (o : Option Rule) → ((a : Rule) → o ≡ Some a → IsRegular c a) → (v : Option Text) (h : Held)
-      → long_fault c again o v h ≡ [] → Suit c h.rows → Suit c (long_met c o v h).0.rows
+      → Keeps c (long_fault c again o v h) h.rows (long_met c o v h).0.rows
   long_suits None own v h none suit = suit
   long_suits (Some a) own v h none suit = go (takes_values a) v none
     where
@@ -73,9 +73,8 @@ module _ (c : List Rule) (again : Bool) (regular : AreRegular c) where
       go false None none = react_suits a (own a refl) [] h none suit
 
   short_suits : (o : Option Rule) → ((a : Rule) → o ≡ Some a → IsRegular c a) → (rest : Text) (h : Held)
-      (more : Held → Kinds) (onward : Held → Held × Outcome)
-      → ((g : Held) → more g ≡ [] → Suit c g.rows → Suit c (onward g).0.rows)
-      → short_fault c again o rest h more ≡ [] → Suit c h.rows → Suit c (short_met c o rest h onward).0.rows
+      (more : Held → Kinds) (onward : Held → Held × Outcome) → ((g : Held) → Keeps c (more g) g.rows (onward g).0.rows)
+      → Keeps c (short_fault c again o rest h more) h.rows (short_met c o rest h onward).0.rows
   short_suits None own rest h more onward later none suit = suit
   short_suits (Some a) own rest h more onward later none suit =
       elim (cases_Bool (takes_values a)) [
@@ -85,22 +84,21 @@ module _ (c : List Rule) (again : Bool) (regular : AreRegular c) where
             rw fails (later (reacted c a [] h) each.1 (react_suits a (own a refl) [] h each.0 suit)))
       ]
 
-  flags_suit : (k : ℕ) (flags : Text) (skip : ℕ) (so_far : Outcome) (h : Held) → flags_fault c again k flags skip h ≡ []
-      → Suit c h.rows → Suit c (bundle_met c k flags skip so_far h).0.rows
+  flags_suit : (k : ℕ) (flags : Text) (skip : ℕ) (so_far : Outcome) (h : Held)
+      → Keeps c (flags_fault c again k flags skip h) h.rows (bundle_met c k flags skip so_far h).0.rows
   unfolding flags_fault bundle_met
   flags_suit zero flags skip so_far h none suit = suit
   flags_suit (suc k) flags skip so_far h none suit = step (slice_get (chars flags) 0) skip none (flags_suit k)
     where
       step : (o : Option ℕ) (skip : ℕ) → bundle_step_fault c again o flags skip h (flags_fault c again k) ≡ []
-          → ((flags : Text) (skip : ℕ) (so_far : Outcome) (h : Held) → flags_fault c again k flags skip h ≡ []
-          → Suit c h.rows → Suit c (bundle_met c k flags skip so_far h).0.rows)
+          → ((flags : Text) (skip : ℕ) (so_far : Outcome) (h : Held)
+          → Keeps c (flags_fault c again k flags skip h) h.rows (bundle_met c k flags skip so_far h).0.rows)
           → Suit c (bundle_step c o flags skip so_far h (bundle_met c k)).0.rows
       step None skip none later = suit
       step (Some x) zero none later =
           let rest = drop (length (encode_utf8 x)) flags in
           short_suits (arg_by_short c x) (found c regular (λ r. not (is_some r.index) && has_short r x)) rest h
-          (flags_fault c again k rest 0) (bundle_met c k rest 0 done)
-          (λ g n s. later rest 0 done g n s) none suit
+          (flags_fault c again k rest 0) (bundle_met c k rest 0 done) (later rest 0 done) none suit
       step (Some x) (suc skip) none later = later (drop (length (encode_utf8 x)) flags) skip so_far h none suit
 
   -- a word that is no subcommand and no `--`

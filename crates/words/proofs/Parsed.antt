@@ -6,7 +6,6 @@ use Rattle.std.specs.Option.{option_map_or}
 use Rattle.std.specs.Str.{bytes_eq}
 use Rattle.std.specs.Str.Parse.{digits_value, without_leading_plus}
 use Rattle.std.proofs.lemmas.Slice.Eq.{bytes_eq-Decides}
-use Rattle.clap.specs.Facts.{unwrap_or_range}
 use Rattle.clap.specs.Faults.{entered_fault, fault_of, level_fault, check_fault, defaults_fault, settle_fault}
 use Rattle.clap.specs.Faults.{walk_fault}
 use Rattle.clap.specs.Simple.{App, Shape, argument_words, built, built_leaf, entered, help_shape, inherited}
@@ -25,10 +24,11 @@ use Rattle.options.specs.Settings.{Settings}
 use Rattle.words.specs.Command as line
 use Rattle.words.specs.Command.{AreMerges, Choices, command_line}
 use Rattle.words.specs.Reading.{AreRead, HasText, MergeIs, NumberIs, OptionsAre}
-use Rattle.words.proofs.Accepted.{AreRegular, IsRegular, has_default, Suit, default_given, defaults_suit, filled}
+use Rattle.words.proofs.Accepted.{AreRegular, has_default, Suit, default_given, defaults_suit, filled}
 use Rattle.words.proofs.Accepted.{given_has_row, none_of, required_given, settled_suit}
 use Rattle.words.proofs.Entered.{is_help, Stands, walk_stands}
-use Rattle.std.proofs.lemmas.Bool.{or_right}
+use Rattle.std.proofs.lemmas.Bool.{or_cases, or_right}
+use Rattle.std.proofs.Math.Bool.{and-true, or-false}
 use Rattle.clap.specs.Kinds.{Kinds, check_kinds}
 use Rattle.clap.specs.Takes.{is_given, value_passes}
 use Rattle.clap.specs.Values.{read_as}
@@ -42,9 +42,8 @@ pub record HasValue (a : Rule) (id : Text) (rows : List Row) : Type 0 where
   pub one : one_of id rows ≡ Some (read_as (reading_by a) text)
   pub passes : value_passes a text ≡ true
 
-none_wanted : (help subcommand argument : Bool) → check_kinds help subcommand argument ≡ [] → (subcommand ≡ false)
-    × (argument ≡ false)
-none_wanted false false false h = (refl, refl)
+none_wanted : (help subcommand argument : Bool) → check_kinds help subcommand argument ≡ [] → argument ≡ false
+none_wanted false false false h = refl
 none_wanted help subcommand argument h = absurd (cc)
 
 module _ (s : Shape) (names : SubcommandNames) (words : List Text) (has : Bool) (below : Kinds)
@@ -77,38 +76,6 @@ module _ (s : Shape) (names : SubcommandNames) (words : List Text) (has : Bool) 
     pub no_help : IfSome (walk s.rules names nothing_held words).stopped (λ q. is_help s q.0 ≡ false)
     no_help = stands.stopped
 
-    -- the rows at the end
-    abbrev rows : List Row
-    rows = rows_after s.rules names words
-
-    -- an argument that is set has a value, if it has a row
-    has_value : (id : Text) (a : Rule) → has_row id rows ≡ true → arg_by_id s.rules id ≡ Some a → action_of a ≡ Set
-        → HasValue a id rows
-    has_value id a has is set =
-        let suit : Suit s.rules rows = defaults_suit s.rules s.args_override_self regular s.rules
-        (settled s.rules end).rows regular parts.3
-        (settled_suit s.rules s.args_override_self regular end parts.2 stands.rows) in
-        let (r, found, value) = filled s.rules rows id a suit has is set in record {
-          text = value.text;
-          first = rw found value.first;
-          one = rw found (rw (value.first, value.reading) refl);
-          passes = value.passes;
-        }
-
-    -- an argument that is required, or has a default, has a value
-    pub required_value : s.subcommand_negates_reqs ≡ false → (id : Text) (a : Rule) → arg_by_id s.rules id ≡ Some a
-        → action_of a ≡ Set → a.required ≡ true → HasValue a id rows
-    required_value kept id a is set required =
-        let argument = (none_wanted _ (not has && s.subcommand_required) _ parts.4).1 in
-        let missing : list_any (λ x. x.required && not (is_given x.id rows)) s.rules ≡ false = rw kept at argument in
-        has_value id a (given_has_row id rows (required_given rows s.rules id a missing is required)) is set
-
-    pub default_value : (id : Text) (a : Rule) → arg_by_id s.rules id ≡ Some a → action_of a ≡ Set
-        → has_default id s.rules ≡ true → HasValue a id rows
-    default_value id a is set default =
-        has_value id a (default_given id s.rules (settled s.rules end).rows
-        (or_right (has_row id (settled s.rules end).rows) (has_default id s.rules) default)) is set
-
 -- ---- the subcommand that was met
 
 -- the words after the subcommand's name have no fault, and its matches are these
@@ -124,15 +91,37 @@ passed s words name rows is none =
     let same : rows_at s words ≡ (name, rows) = cc in
     record { words = words; named = sym (ap (λ p. p.0) same); are = sym (ap (λ p. p.1) same); none = none }
 
--- what the matches of such a subcommand hold
+-- what the matches of such a subcommand hold of an argument that is set
 module _ {s : Shape} {name : Text} {rows : List Row} (is : IsPassed s name rows) (regular : AreRegular s.rules)
     (id : Text) (a : Rule) (found : arg_by_id s.rules id ≡ Some a) (set : action_of a ≡ Set) where
+  abbrev last : List Row
+  last = rows_after s.rules [] is.words
+
+  -- it has a value, if it has a row,
+  has_value : has_row id last ≡ true → HasValue a id rows
+  has_value has =
+      let tests = parts s [] is.words false [] is.none in
+      let ended = (walk s.rules [] nothing_held is.words).held in
+      let suit : Suit s.rules last = defaults_suit s.rules s.args_override_self regular s.rules
+      (settled s.rules ended).rows regular tests.3 (settled_suit s.rules s.args_override_self regular ended tests.2
+      (stands s [] is.words false [] is.none regular).rows) in
+      let (r, there, (reading, (text, first, passes))) = filled s.rules last id a suit has found set in
+      rw is.are (record {
+        text = text;
+        first = rw there first;
+        one = rw there (rw (first, reading) refl);
+        passes = passes;
+      })
+
+  -- and so if it is required, or has a default
   required : s.subcommand_negates_reqs ≡ false → a.required ≡ true → HasValue a id rows
   required kept needed =
-      rw is.are (required_value s [] is.words false [] is.none regular kept id a found set needed)
+      let argument = none_wanted _ s.subcommand_required _ (parts s [] is.words false [] is.none).4 in
+      let missing : list_any (λ x. x.required && not (is_given x.id last)) s.rules ≡ false = rw kept at argument in
+      has_value (given_has_row id last (required_given last s.rules id a missing found needed))
 
   defaulted : has_default id s.rules ≡ true → HasValue a id rows
-  defaulted default = rw is.are (default_value s [] is.words false [] is.none regular id a found set default)
+  defaulted default = has_value (default_given id s.rules _ (or_right (has_row id _) (has_default id s.rules) default))
 
   text : s.subcommand_negates_reqs ≡ false → a.required ≡ true → HasText rows id
   text kept needed = let v = required kept needed in (v.text, v.first)
@@ -166,33 +155,24 @@ module _ (choices : Choices) where
   check_leaf = leaf line.check.top
 
   regular : AreRegular all.top.rules
-  regular = (record { own = refl; valued = λ set. absurd (cc) }, tt)
+  regular = ((refl, λ set. cc), tt)
 
-  -- an argument with one value, and a flag, before others
-  valued : {c : List Rule} {a : Rule} {Others : Type 0} → arg_by_id c a.id ≡ Some a
-      → (unwrap_or_range a.range).start_inclusive ≡ 1 → Others → IsRegular c a × Others
-  valued own one others = (record { own = own; valued = λ set. one }, others)
-
-  flag : {c : List Rule} {a : Rule} {Others : Type 0} → arg_by_id c a.id ≡ Some a → (action_of a ≡ Set → ⊥) → Others
-      → IsRegular c a × Others
-  flag own not others = (record { own = own; valued = λ set. absurd (not set) }, others)
+  one_more : {A B : Type 0} → A → B → A × B
+  one_more a b = (a, b)
 
   explore_regular : AreRegular explore_leaf.rules
   explore_regular =
-      valued refl refl (valued refl refl (valued refl refl (valued refl refl (valued refl refl
-      (flag refl (λ set. cc) (valued refl refl (flag refl (λ set. cc) tt)))))))
+      one_more (refl, λ set. refl) (one_more (refl, λ set. refl) (one_more (refl, λ set. refl)
+      (one_more (refl, λ set. refl) (one_more (refl, λ set. refl)
+      ((refl, λ set. cc), ((refl, λ set. refl), ((refl, λ set. cc), tt)))))))
 
   replay_regular : AreRegular replay_leaf.rules
-  replay_regular = valued refl refl (valued refl refl (flag refl (λ set. cc) tt))
+  replay_regular = ((refl, λ set. refl), ((refl, λ set. refl), ((refl, λ set. cc), tt)))
 
   check_regular : AreRegular check_leaf.rules
-  check_regular = valued refl refl (valued refl refl (flag refl (λ set. cc) tt))
+  check_regular = ((refl, λ set. refl), ((refl, λ set. refl), ((refl, λ set. cc), tt)))
 
   -- ---- the subcommand that the words name
-
-  no_and : (b : Bool) → (b && true) ≡ false → b ≡ false
-  no_and true h = h
-  no_and false h = h
 
   -- the words after the name of one of the subcommands have no fault
   abbrev AreNamed : Text → List Row → Type 0
@@ -241,7 +221,7 @@ module _ (choices : Choices) where
         go : (o : Option (Text × List Text)) → IfSome o (λ q. is_help all.top q.0 ≡ false)
             → entered all o ≡ Some (name, rows) → entered_fault all o ≡ [] → AreNamed name rows
         go None other is none = absurd (cc)
-        go (Some p) other is none = by_name name rows p (no_and (bytes_eq p.0 (codes "help")) other) is none
+        go (Some p) other is none = by_name name rows p (rw and-true at other) is none
 
   -- ---- what the matches of `explore` hold
 
@@ -252,13 +232,12 @@ module _ (choices : Choices) where
       let among : list_any (λ t. bytes_eq t v.text) (codes "exact" ∷ codes "names" ∷ []) ≡ true =
       ap (list_any (λ t. bytes_eq t v.text)) (sym merges)
       ∙ (sym (list_any-map (λ t. bytes_eq t v.text) (λ c. c.now) choices.now) ∙ passes) in
-      go (bytes_eq (codes "exact") v.text) (bytes_eq (codes "names") v.text) refl refl among
-    where
-      go : (e n : Bool) → bytes_eq (codes "exact") v.text ≡ e → bytes_eq (codes "names") v.text ≡ n
-          → (e || (n || false)) ≡ true → (m : Merge) × MergeIs rows m
-      go true n exact names among = (merge.Exact, cc (v.first, (bytes_eq-Decides (codes "exact") v.text).0 exact))
-      go false true exact names among = (merge.Names, cc (v.first, (bytes_eq-Decides (codes "names") v.text).0 names))
-      go false false exact names among = absurd (cc)
+      elim (or_cases (bytes_eq (codes "exact") v.text) (bytes_eq (codes "names") v.text || false) among) [
+        | inl exact ↦ (merge.Exact, cc (v.first, (bytes_eq-Decides (codes "exact") v.text).0 exact))
+        | inr rest ↦ (
+            let names : bytes_eq (codes "names") v.text ≡ true = rw or-false at rest in
+            (merge.Names, cc (v.first, (bytes_eq-Decides (codes "names") v.text).0 names)))
+      ]
 
   explore_options : {name : Text} (rows : List Row) → IsPassed explore_leaf name rows → AreMerges choices
       → (settings : Settings) × OptionsAre rows settings

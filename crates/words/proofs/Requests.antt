@@ -8,7 +8,7 @@ use Rattle.clap.specs.declared.error.Error.{Error}
 use Rattle.clap.specs.declared.error.kind.ErrorKind.TheVariants as kind
 use Rattle.clap.specs.declared.parser.matches.ArgMatches.{ArgMatches}
 use Rattle.clap.specs.declared.parser.matches.ArgMatches.TheViews.{out-ArgMatches}
-use Rattle.words.specs.Command.{AreMerges, Choices, IsCommandLine, command_line}
+use Rattle.words.specs.Command.{IsCommandLine, command_line}
 use Rattle.words.specs.Reading.{AreRead, AreRefused, AskFor, IsFaultOf, IsRequestOf, Tells, IsUsed, NumberIs}
 use Rattle.words.specs.declared.request.Request.{Request}
 use Rattle.words.specs.declared.request.WordsFault.{WordsFault}
@@ -19,50 +19,38 @@ use Rattle.std.specs.Str.Parse.{ParsesBool, ParsesUnsigned}
 
 both : {B X Y : Type 0} (g : B → X × Y) (o : Option B) {x : X} {y : Y} → Some x ≡ option_map (λ b. (g b).0) o
     → Some y ≡ option_map (λ p. p.1) (option_map g o) → option_map g o ≡ Some (x, y)
-both g None n r = absurd (cc)
+both g None n r = cc
 both g (Some b) {x} {y} n r = let first : x ≡ (g b).0 = cc in let second : y ≡ (g b).1 = cc in rw (first, second) refl
 
 pub read : (words : List Text) (app : App) → IsCommandLine app → (m : ArgMatches) → HasMatchesOf app words m
     → (is_simple_and_free app ≡ true → fault_of app words ≡ []) → (name : Text) (rows : List Row)
     → Some name ≡ subcommand_name_of m → Some rows ≡ option_map (λ p. p.1) (subcommand_rows_of m)
     → AreRead words name rows
-read words app line m matches none name rows n r = (
-  line.0,
-  line.1,
-  (rw line.2 at none) refl,
-  sym ((rw line.2 at matches) refl).1
-      ∙ both _ (out-ArgMatches m).subcommand n r,
-)
+read words app (choices, merges, is) m matches none name rows n r =
+    (choices, merges, (rw is at none) refl, sym ((rw is at matches) refl).1 ∙ both _ (out-ArgMatches m).subcommand n r)
 
-module _ (words : List Text) (name : Text) (rows : List Row) (are : AreRead words name rows) where
-  -- a request of the subcommand is one of the words
-  pub asked : (own : Text) → own ≡ name → (r : Request) → IsRequestOf own rows r → AskFor words r
-  asked own named r is = (name, (rows, (are, rw (← named) is)))
-
-  -- so is a request or a fault
-  pub asked_or_refused : (own : Text) → own ≡ name → (r : Result Request WordsFault)
-      → MatchResult r (IsRequestOf own rows) (IsFaultOf own rows)
-      → MatchResult r (AskFor words) (AreRefused words)
-  asked_or_refused own named (Ok q) is = asked own named q is
-  asked_or_refused own named (Err (fault.Usage help text)) is = absurd is
-  asked_or_refused own named (Err fault.OutOfMemory) is = tt
-  asked_or_refused own named (Err f) is =
-      (rows, ((are.0, are.1, are.2, rw (sym named ∙ is.0) at are.3), is.1))
-
-module _ (words : List Text) (error : Error) (choices : Choices) (merges : AreMerges choices) where
-  is_refused : HasKind (fault_of (command_line choices) words) error → (e : WordsFault) → Tells (kind_of error) e
-      → (kind_of error ≡ kind.OutOfMemory → e ≡ fault.OutOfMemory) → AreRefused words e
-  is_refused (inl out) e tells memory = rw (memory out) tt
-  is_refused (inr among) (fault.Usage help text) tells memory = (choices, merges, (kind_of error, among, tells))
-  is_refused (inr among) fault.OutOfMemory tells memory = tt
-  is_refused (inr among) e tells memory = absurd tells
+-- a request or a fault of the subcommand is one of the words
+pub asked_or_refused : (words : List Text) (name : Text) (rows : List Row) → AreRead words name rows → (own : Text)
+    → own ≡ name → (r : Result Request WordsFault) → MatchResult r (IsRequestOf own rows) (IsFaultOf own rows)
+    → MatchResult r (AskFor words) (AreRefused words)
+asked_or_refused words name rows are own named (Ok q) is = (name, (rows, (are, rw (← named) is)))
+asked_or_refused words name rows are own named (Err (fault.Usage help text)) is = absurd is
+asked_or_refused words name rows are own named (Err fault.OutOfMemory) is = tt
+asked_or_refused words name rows are own named (Err f) is =
+    (rows, ((are.0, are.1, are.2, rw (sym named ∙ is.0) at are.3), is.1))
 
 pub stated : (words : List Text) (error : Error) (app : App) → IsCommandLine app
     → (is_simple_and_free app ≡ true → HasKind (fault_of app words) error)
     → (e : WordsFault) → Tells (kind_of error) e → (kind_of error ≡ kind.OutOfMemory → e ≡ fault.OutOfMemory)
     → AreRefused words e
-stated words error app line kinds =
-    is_refused words error line.0 line.1 ((rw line.2 at kinds) refl)
+stated words error app (choices, merges, is) kinds e tells memory = told ((rw is at kinds) refl) e tells memory
+  where
+    told : HasKind (fault_of (command_line choices) words) error → (e : WordsFault) → Tells (kind_of error) e
+        → (kind_of error ≡ kind.OutOfMemory → e ≡ fault.OutOfMemory) → AreRefused words e
+    told (inl out) e tells memory = rw (memory out) tt
+    told (inr among) (fault.Usage help text) tells memory = (choices, merges, (kind_of error, among, tells))
+    told (inr among) fault.OutOfMemory tells memory = tt
+    told (inr among) e tells memory = absurd tells
 
 -- ---- the values that the typed getters of clap's matches read
 
@@ -92,7 +80,7 @@ pub flag_read : (E : Type 0) (rows : List Row) (id : Text) (o : Option Text) →
 flag_read E rows id None e None none value b is = (λ h. absurd (cc), λ u. absurd (cc))
 flag_read E rows id None e (Some v) none value b is = absurd (cc (none refl))
 flag_read E rows id (Some t) e None none value b is =
-    (λ h. absurd (cc), λ u. let same : t ≡ codes "true" = cc in absurd ((value t refl).1.0 same))
+    (λ h. cc, λ u. let same : t ≡ codes "true" = cc in absurd ((value t refl).1.0 same))
 flag_read E rows id (Some t) e (Some true) none value b is =
     let same : t ≡ codes "true" = value t refl in (λ h. sym e ∙ ap Some same, λ u. is)
 flag_read E rows id (Some t) e (Some false) none value b is =

@@ -1,9 +1,10 @@
 -- The tests of numbers, of truth values, of options and of lists hold of equal values alone.
-use Rattle.std.specs.Prelude.{◌≡◌, Bool, true, false, nat_eq, ◌&&◌, [], ◌∷◌, Some, None, refl}
+use Rattle.std.specs.Prelude.{◌≡◌, Bool, true, false, nat_eq, [], ◌∷◌, Some, None, refl}
 use Rattle.std.specs.Option.{option_eq}
 use Rattle.std.specs.Cmp.Lexicographic.{pointwise}
 use Rattle.std.proofs.Common.{ap}
 use Rattle.std.proofs.lemmas.Bool.{eqb-true}
+pub use Rattle.std.proofs.lemmas.Bool.{and_parts as both}
 use mathlib.Core.Bool.{beq}
 use Rattle.sched_program.specs.Exact.{IsExact}
 
@@ -14,11 +15,6 @@ pub bool_exact : IsExact beq
 bool_exact true true h = refl
 bool_exact false false h = refl
 bool_exact a b h = cc
-
--- both tests held
-pub both : (a b : Bool) → (a && b) ≡ true → (a ≡ true) × (b ≡ true)
-both true b h = (refl, h)
-both false b h = cc
 
 module _ {A : Type 0} {E : A → A → Bool} (exact : IsExact E) where
   pub option_exact : IsExact (option_eq E)

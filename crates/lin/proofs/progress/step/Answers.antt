@@ -10,11 +10,8 @@ use Rattle.lin.proofs.progress.step.Goals as goal
 
 pub returns-in_default-clause-barred : goal.returns-in_default-clause-barred
 returns-in_default-clause-barred c =
-    let history = c.args.timeline.now in
-    let from = c.args.from in
-    subst₂ (AreBarred history) (sym c.with.ensures) (sym c.union.ensures)
-    (barred_more history (operations_in from.at.listed) (operations_in from.barred)
-    (operations_in c.before-before.result) c.args.name c.requires.barred c.before-before.ensures)
+    subst₂ (AreBarred c.args.timeline.now) (sym c.with.ensures) (sym c.union.ensures)
+    (barred_more c.args.timeline.now _ _ _ c.args.name c.requires.barred c.before-before.ensures)
 
 pub returns-in_default-clause-stands : goal.returns-in_default-clause-stands
 returns-in_default-clause-stands c =

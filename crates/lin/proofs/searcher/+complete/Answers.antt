@@ -3,7 +3,6 @@ use Rattle.std.proofs.Common.{append-nil}
 use Rattle.sched_program.specs.declared.operation.OpId.{OpId}
 use Rattle.lin.specs.Completion.{listed_in, IsHopeless}
 use Rattle.lin.specs.KeySet.{keys_in}
-use Rattle.lin.specs.OpSet.{operations_in}
 use Rattle.lin.specs.Configuration.{IsHopelessAt}
 use Rattle.lin.proofs.Configurations.{All-found, All-kept}
 use Rattle.std.proofs.lemmas.List.{take_all}
@@ -34,27 +33,25 @@ step-requires-clause-begun t c =
 pub complete-requires : goal.complete-requires
 complete-requires t c =
     let pushed =
-    once_pushed c.requires.listed c.in-Some.ensures.stands c.loop-name.invariant.same c.in_ok-push.ensures.items
-    (operations_in c.in-Some.next.at.listed) c.in-Some.ensures.listed in (
+    once_pushed c.args.order.now.items c.requires.listed c.in-Some.ensures.stands
+    (rw c.loop-name.invariant.same at c.in_ok-push.ensures.items) _ c.in-Some.ensures.listed in (
       rw c.decreases at pushed.0,
       (c.requires.limits, (pushed.1, (c.in-Some.ensures.barred, c.loop-name.invariant.failed))),
     )
 
 pub returns-then-branch-clause-answer : goal.returns-then-branch-clause-answer
 returns-then-branch-clause-answer t c =
-    let found = rw c.if-branch.true at c.in_ok-complete.ensures.answer in
-    found_more c.requires.listed c.in-Some.ensures.stands c.loop-name.invariant.same c.in_ok-push.ensures.items
-    c.complete.new.order.items found
+    found_more c.args.order.now.items c.requires.listed c.in-Some.ensures.stands
+    (rw c.loop-name.invariant.same at c.in_ok-push.ensures.items) _
+    (rw c.if-branch.true at c.in_ok-complete.ensures.answer)
 
 pub loop-name-preserved : goal.loop-name-preserved
 loop-name-preserved t c =
-    let program = c.args.program.now in
-    let history = c.args.timeline.now in
     let old = c.args.order.now.items in
-    let keys = keys_in c.args.from.at.keys in
     let name = c.loop-name-item.result.0 in
     let same = c.loop-name.invariant.same in
-    let Fails : OpId → Type 0 = CannotComeNext program history (listed_in old) keys in
+    let Fails : OpId → Type 0 =
+    CannotComeNext c.args.program.now c.args.timeline.now (listed_in old) (keys_in c.args.from.at.keys) in
     let more =
     λ (here : Fails name). All-more (λ e. Fails e.0) c.begun-name-items.result.now c.loop-name.name-index
     c.loop-name-item.result c.loop-name-test.true c.loop-name.invariant.tried (rw (← c.loop-name-item.is) here) in
@@ -66,8 +63,7 @@ loop-name-preserved t c =
             same = ap (λ v. v.items) w.order-is ∙ popped _ old _ name w.pop.result w.pop.ensures.items (none.0 ∙ pushed)
                 (λ some. w.pop.ensures.variant.1 (omega (arith, w.complete.new.order.ok.0, some)));
             failed = rw w.failed-is w.in_ok-complete.ensures.failed;
-            tried = more
-                (not_after c.requires.listed w.in-Some.ensures.stands same w.in_ok-push.ensures.items none.1);
+            tried = more (not_after old c.requires.listed w.in-Some.ensures.stands pushed none.1);
           }
       | in_default w ↦ record {
         same = ap (λ v. v.items) w.order-is ∙ same;
@@ -79,11 +75,9 @@ loop-name-preserved t c =
 hopeless : {t : ℕ} (c : goal.In_ok-insert t)
     → IsHopeless c.args.program.now c.args.timeline.now (listed_in c.args.order.now.items) (keys_in c.args.from.at.keys)
 hopeless {t} c =
-    let history = c.args.timeline.now in
-    let order = c.args.order.now.items in
-    let listed = every_listed history _ _ _ c.finished.ensures.value c.requires.listed in
+    let listed = every_listed c.args.timeline.now _ _ _ c.finished.ensures.value c.requires.listed in
     let all = take_all c.loop-name.name-index c.begun-name-items.result.now c.loop-name-test.false in
-    nothing_left c.args.program.now history (listed_in order) (keys_in c.args.from.at.keys)
+    nothing_left c.args.program.now c.args.timeline.now (listed_in c.args.order.now.items) (keys_in c.args.from.at.keys)
     (λ every. true≢false (sym (c.is_within.ensures.1 (listed.1 every)) ∙ c.if-is_within.false))
     (rw (all, c.begun-name-items.ensures.value) at c.loop-name.invariant.tried)
 

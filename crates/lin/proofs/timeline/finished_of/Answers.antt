@@ -1,7 +1,7 @@
 use Rattle.std.proofs.Common.{Bool, false, get_or, ◌∙◌, ap}
 use Rattle.sched_program.specs.declared.operation.OpId.{OpId}
 use Rattle.lin.specs.Completion.{with_name}
-use Rattle.lin.proofs.Timelines.{finished_has_place, finished_more}
+use Rattle.lin.proofs.Timelines.{finished_placed, finished_more}
 use Rattle.lin.proofs.timeline.finished_of.Goals as goal
 
 abbrev nothing : OpId × Bool
@@ -9,9 +9,9 @@ nothing = (record { thread = 0; index = 0 }, false)
 
 pub with-set-requires : goal.with-set-requires
 with-set-requires c =
-    let has =
-    finished_has_place c.args.history.now c.finished-name-items.ensures.events c.finished-name-items.result.now
-    c.loop-name.name-index nothing c.finished-name-items.ensures.value c.loop-name-test.true in
+    let placed = rw (← c.finished-name-items.ensures.value) at
+    (finished_placed c.args.history.now c.finished-name-items.ensures.events) in
+    let has = placed c.loop-name.name-index nothing c.loop-name-test.true in
     record { thread = has.0; index = has.1 }
 
 pub loop-name-preserved : goal.loop-name-preserved

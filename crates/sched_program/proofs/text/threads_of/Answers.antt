@@ -1,10 +1,11 @@
 use Rattle.std.proofs.Common.{codes, sym}
+use Rattle.std.proofs.ByRecursion.{All-push}
 use Rattle.serde_json.specs.View.{view}
 use Rattle.sched_program.specs.declared.fault.ProgramFault.TheVariants as fault
 use Rattle.sched_program.specs.Text.{IsListOf, IsOp}
 use Rattle.sched_program.specs.Faults.{HasKeys, HasWords, HasOpCounts, Passes, earlier}
 use Rattle.sched_program.proofs.Values.{of_member}
-use Rattle.sched_program.proofs.Members.{within, thread_counts, no_keys, one_more}
+use Rattle.sched_program.proofs.Members.{within, thread_counts, no_keys}
 use Rattle.sched_program.proofs.text.threads_of.Goals as goal
 
 pub returns-in-Some-2-clause-ok : goal.returns-in-Some-2-clause-ok
@@ -27,12 +28,12 @@ returns-in-None-clause-err c =
     let counts : HasOpCounts threads = rw c.if-not-branch.false at c.in_ok-has_op_counts.ensures in
     let words : HasWords threads = rw c.if-not-branch-2.false at c.in_ok-has_words.ensures in
     let before_ops =
-    one_more (Passes value) (earlier fault.Threads) fault.Threads c.requires
+    All-push (Passes value) (earlier fault.Threads) fault.Threads c.requires
     (threads, at_threads, c.in-Some.ensures.found.1) in
-    let before_op = one_more (Passes value) (earlier fault.Ops) fault.Ops before_ops (threads, at_threads, counts) in
+    let before_op = All-push (Passes value) (earlier fault.Ops) fault.Ops before_ops (threads, at_threads, counts) in
     record {
       stands =
           λ has. no_keys threads words (rw c.in-None.is at c.in_ok-threads.ensures.none)
           (of_member HasKeys (codes "threads") value threads (sym at_threads) has);
-      first = one_more (Passes value) (earlier fault.Op) fault.Op before_op (threads, at_threads, words);
+      first = All-push (Passes value) (earlier fault.Op) fault.Op before_op (threads, at_threads, words);
     }

@@ -1,7 +1,7 @@
-use Rattle.std.proofs.Common.{codes, rules}
+use Rattle.std.proofs.Common.{Ok, codes, rules}
 use Rattle.clap.specs.Words.{found_of, rows_of}
 use Rattle.words.proofs.Parsed.{checking, exploring, no_other, replaying}
-use Rattle.words.proofs.Requests.{asked, asked_or_refused}
+use Rattle.words.proofs.Requests.{asked_or_refused}
 use Rattle.words.proofs.request.request_of.Goals as goal
 
 pub explore_of-requires : goal.explore_of-requires
@@ -29,7 +29,7 @@ check_of-requires c =
 
 pub returns-in-check : goal.returns-in-check
 returns-in-check c = λ words are.
-    asked words _ _ are (codes "check") (search rules) c.check_of.result c.check_of.ensures
+    asked_or_refused words _ _ are (codes "check") (search rules) (Ok c.check_of.result) c.check_of.ensures
 
 pub unreachable-requires : goal.unreachable-requires
 unreachable-requires c = no_other c.requires.0 _ _ c.requires.1 (search rules) (search rules) (search rules)

@@ -1,13 +1,15 @@
 -- What was read so far follows what the reader had, and the read that returned no byte is its end.
-use Rattle.std.proofs.Common.{arith, rules}
-use Rattle.sched_program.proofs.ReadBytes.{none_more, some_more}
+use Rattle.std.proofs.Common.{take, append-nil, arith, rules}
+use Rattle.std.proofs.KnownBytes.{Consumes-trans}
 use Rattle.sched_program.proofs.counted.Counted.read_all.Goals as goal
 
 pub returns-then-count-eq0-clause-bytes : goal.returns-then-count-eq0-clause-bytes
 returns-then-count-eq0-clause-bytes g c =
-    none_more (g.R.Read.remaining c.args.self.now.reader) (g.R.Read.remaining c.loop.self.reader)
-    (g.R.Read.remaining c.read.new.self.reader) c.loop.bytes.items c.read.new.buf c.in_ok-count.count
-    c.loop.invariant.1 c.in_ok-count.ensures.bytes.0 c.if-count-eq0.true
+    let remaining = g.R.Read.remaining in
+    rw (c.if-count-eq0.true, append-nil) at
+    (Consumes-trans (remaining c.args.self.now.reader) (remaining c.loop.self.reader)
+    (remaining c.read.new.self.reader) c.loop.bytes.items (take c.in_ok-count.count c.read.new.buf)
+    c.loop.invariant.1 c.in_ok-count.ensures.bytes.0)
 
 pub returns-then-count-eq0-clause-end : goal.returns-then-count-eq0-clause-end
 returns-then-count-eq0-clause-end g c = c.in_ok-count.ensures.bytes.1 c.if-count-eq0.true (omega arith)
@@ -16,10 +18,11 @@ pub returns-then-count-eq0-clause-count : goal.returns-then-count-eq0-clause-cou
 returns-then-count-eq0-clause-count g c = search rules
 
 pub loop-preserved : goal.loop-preserved
-loop-preserved g c = (
-  omega (arith, c.in_ok-count.ensures.count),
-  some_more (g.R.Read.remaining c.args.self.now.reader) (g.R.Read.remaining c.loop.self.reader)
-      (g.R.Read.remaining c.read.new.self.reader) c.loop.bytes.items c.read.new.buf c.in_ok-count.count
-      c.loop.invariant.1 c.in_ok-count.ensures.bytes.0 c.extend_from_slice.new.self.items
-      c.in_ok-extend_from_slice.ensures.items,
-)
+loop-preserved g c =
+    let remaining = g.R.Read.remaining in (
+      omega (arith, c.in_ok-count.ensures.count),
+      rw c.in_ok-extend_from_slice.ensures.items
+          (Consumes-trans (remaining c.args.self.now.reader) (remaining c.loop.self.reader)
+          (remaining c.read.new.self.reader) c.loop.bytes.items (take c.in_ok-count.count c.read.new.buf)
+          c.loop.invariant.1 c.in_ok-count.ensures.bytes.0),
+    )
