@@ -1,12 +1,11 @@
 //! The lines that the program prints. Each function appends its text to a page.
 ghost use Rattle.std.specs.Prelude.{◌≡◌, ◌++◌, IfOk};
 ghost use Rattle.std.specs.String.{string_bytes};
-ghost use Rattle.sched_program.specs.Name.{value_at};
 ghost use Rattle.treesched_lib.specs.Lines as lines;
 
 use book::{Finding, ShortName, Totals};
 use crew::{Answer, Report, Share};
-use sched_program::{History, Op, OpId, OutOfMemory, Program};
+use sched_program::{History, Op, OpId, OutOfMemory, Program, value_of};
 use std::fmt::Write;
 use tree_machine::Encode;
 
@@ -48,18 +47,6 @@ fn put_reply(page: &mut String, reply: Option<bool>) -> Result<(), OutOfMemory>
     }
 }
 
-/// The reply of an operation, if it is finished.
-fn reply_of(finished: &[(OpId, bool)], id: OpId) -> Option<bool>
-    ensures { result ≡ value_at finished.now id }
-{
-    for (other, reply) in finished {
-        if *other == id {
-            return Some(*reply);
-        }
-    }
-    None
-}
-
 /// The line of an operation that began.
 fn put_operation(
     page: &mut String,
@@ -77,7 +64,7 @@ fn put_operation(
     page.push(' ')?;
     put_op(page, op)?;
     page.push(' ')?;
-    put_reply(page, reply_of(history.finished(), id))?;
+    put_reply(page, value_of(history.finished(), id))?;
     page.push('\n')
 }
 

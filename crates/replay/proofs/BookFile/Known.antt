@@ -1,7 +1,8 @@
 -- What labels tell of alike states.
-use Rattle.std.proofs.Common.{◌≡◌, ℕ, suc, ◌+◌, ◌<◌, inr, Some, Option, List, [], ◌∷◌, ◌++◌, length, Contains, refl}
-use Rattle.std.proofs.Common.{arith, slice_get}
+use Rattle.std.proofs.Common.{◌≡◌, ℕ, suc, ◌+◌, ◌<◌, Bool, true, inl, inr, Some, Option, List, [], ◌∷◌, ◌++◌, length}
+use Rattle.std.proofs.Common.{Contains, refl, arith, slice_get, slice_set}
 use borrow.Author.Count.{below_more}
+use Rattle.std.proofs.lemmas.Bool.{cases_eq}
 use Rattle.std.proofs.lemmas.List.Elements.{Contains-append_left}
 use Rattle.std.proofs.lemmas.Option.{slice_get_within}
 use Rattle.lin.proofs.Lists.{Contains-slice_get, slice_get-Contains}
@@ -15,7 +16,7 @@ use Rattle.tree_machine.specs.Step.{start, step, Fits}
 use Rattle.tree_machine.specs.declared.state.State.{State}
 use Rattle.tree_machine.proofs.Alike.{alike_step}
 use Rattle.tree_machine.proofs.Forms.{forms_alike}
-use Rattle.tree_machine.proofs.Lists.{get-map, map-get}
+use Rattle.tree_machine.proofs.Lists.{get-map, get-set_other, map-get}
 use Rattle.replay.specs.Closed.{IsAlikeToOneOf}
 use Rattle.replay.specs.Labels.{named_by}
 use Rattle.replay.specs.BookFile.Checks.{AreRefused, Pass}
@@ -52,6 +53,15 @@ still_closed rules program label_of lines line labels label i closed states so =
     let (earlier, described, stays) = first_described rules program (start rules program ∷ []) lines line states so.1 in
     let (s, at, known) = closed earlier (so.0, described) in
     (s, stays i s at, λ t next leads. Contains-append_left labels (label ∷ []) (label_of next) (known t next leads))
+
+-- one more mark, of an entry of which it holds
+pub mark_set : (P : ℕ → Type 0) (marks : List Bool) (k : ℕ) → ((i : ℕ) → slice_get marks i ≡ Some true → P i) → P k
+    → (i : ℕ) → slice_get (slice_set marks k true) i ≡ Some true → P i
+mark_set P marks k marked here i at =
+    elim (cases_eq i k) [
+      | inl same ↦ rw same here
+      | inr other ↦ marked i (rw (← get-set_other marks k i true other) at)
+    ]
 
 module _ {Machine Memory Place Form : Type 0} {rules : Rules Memory Place} {program : Program}
     (lawful : AreLawful rules) (limits : IsWithinLimits program) {form_of : Memory → List (Option Place) → Form}

@@ -1,5 +1,5 @@
 -- What is kept of the entries of a book file, and the states that stand in for theirs.
-use Rattle.std.specs.Prelude.{◌≡◌, ℕ, ◌≤◌, Option, Some, List, Contains, IfSome, IsSomeAnd, map, slice_get}
+use Rattle.std.specs.Prelude.{◌≡◌, ℕ, ◌≤◌, Bool, true, Option, Some, List, Contains, IfSome, IsSomeAnd, map, slice_get}
 use Rattle.sched_program.specs.Program.{Program}
 use Rattle.tree_machine.specs.Offsets.{AreOffsetsOf}
 use Rattle.tree_machine.specs.Rules.{Rules}
@@ -50,6 +50,12 @@ module _ {Machine Memory Place Form : Type 0} (rules : Rules Memory Place) (prog
       → AreReplayed rules program lines states
       → (state : State Machine Memory Place Form) × (slice_get states index ≡ Some state)
       × AreStepsKnown label_of labels state
+
+  -- so it is of each state that is marked
+  abbrev pub AreMarkedClosed : (State Machine Memory Place Form → List ℕ) → List BookLine → List (List ℕ) → List Bool
+      → Type 0
+  AreMarkedClosed label_of lines labels marks = (index : ℕ) → slice_get marks index ≡ Some true
+      → IsEntryClosed label_of lines labels index
 
 -- the state was decoded from the label of this entry, if there is one, whose parts begin at these offsets
 abbrev pub IsSource : {Machine Memory Place Form : Type 0} → (Front → Memory → List ℕ)

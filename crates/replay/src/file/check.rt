@@ -31,8 +31,8 @@ fn replay_and_close<M: Encode>(
     ensures refused { IfErr result (λ fault. (fault ≡ CheckFault.OutOfMemory)
         ⊎ AreRefused M M.Form (M.rules input.now.machine) input.now.program.now input.now.lines.now fault) }
 {
-    let (labels, closed) = replay_lines(alloc, input, replayer)?;
-    test_closed(alloc, input, &labels, closed.as_slice(), replayer)
+    let (labels, marks) = replay_lines(alloc, input, replayer)?;
+    test_closed(alloc, input, &labels, marks.as_slice(), replayer)
 }
 
 /// Whether the lines after the second of a book file pass: each states the step of an earlier entry, and its order

@@ -1,10 +1,10 @@
 //! Whether a step leads out of the states of entries.
-ghost use Rattle.std.specs.Prelude.{◌≡◌, ◌+◌, ◌^◌, ◌<◌, ◌⊎◌, All, Contains, length, true, false, IfOk, IfErr, OnOk};
+ghost use Rattle.std.specs.Prelude.{◌≡◌, ◌+◌, ◌^◌, ◌<◌, ◌⊎◌, Contains, length, true, false, IfOk, IfErr, OnOk};
 ghost use Rattle.std.specs.Prelude.{IsTrue, Some, slice_get};
 ghost use Rattle.tree_machine.specs.Step.{Fits, step};
 ghost use Rattle.tree_machine.specs.declared.state.State.{State};
 ghost use Rattle.replay.specs.BookFile.Checks.{AreRefused, Pass};
-ghost use Rattle.replay.specs.BookFile.Kept.{AreLabelsOf, AreStepsKnown, IsEntryClosed, IsSource, IsStepUnknown, StandsForEntry};
+ghost use Rattle.replay.specs.BookFile.Kept.{AreLabelsOf, AreMarkedClosed, AreStepsKnown, IsSource, IsStepUnknown, StandsForEntry};
 ghost use Rattle.replay.specs.Labels.{named_by};
 ghost use Rattle.replay.specs.declared.file.line.BookLine.{BookLine};
 
@@ -113,15 +113,15 @@ fn leads_out<M: Encode>(
     Ok(false)
 }
 
-/// Notes an entry, by its index, if each of its steps has one of the labels. `first` is the index of the first line that
-/// states one of them.
-pub fn note_closed<M: Encode>(
+/// Marks an entry if each of its steps has one of the labels. `first` is the index of the first line that states one of
+/// them.
+pub fn mark_closed<M: Encode>(
     alloc: Global,
     input: &Input<'_, M>,
     labels: &Labels,
-    index: u32,
+    index: usize,
     first: usize,
-    closed: &mut Vec<u32>,
+    marks: &mut Vec<bool>,
     replayer: &mut Replayer<M>,
 ) -> Result<(), OutOfMemory>
     requires kept { AreLabelsOf {Machine = M} (M.rules input.now.machine) input.now.program.now
@@ -129,48 +129,50 @@ pub fn note_closed<M: Encode>(
     requires bounded { length input.now.lines.now < 2000000 }
     requires within { index < length labels.now }
     requires source { IsSource M.front_code M.behind_code labels.now replayer.old.source replayer.old.state }
-    requires closed { All (IsEntryClosed {Machine = M} (M.rules input.now.machine) input.now.program.now
-        (named_by M.form_code (M.form_of input.now.machine)) input.now.lines.now labels.now) closed.old.items }
-    ensures closed { OnOk result (All (IsEntryClosed {Machine = M} (M.rules input.now.machine) input.now.program.now
-        (named_by M.form_code (M.form_of input.now.machine)) input.now.lines.now labels.now) closed.new.items) }
+    requires marked { AreMarkedClosed {Machine = M} (M.rules input.now.machine) input.now.program.now
+        (named_by M.form_code (M.form_of input.now.machine)) input.now.lines.now labels.now marks.old.items }
+    ensures marked { OnOk result (AreMarkedClosed {Machine = M} (M.rules input.now.machine) input.now.program.now
+        (named_by M.form_code (M.form_of input.now.machine)) input.now.lines.now labels.now marks.new.items) }
     ensures source { OnOk result
         (IsSource M.front_code M.behind_code labels.now replayer.new.source replayer.new.state) }
 {
     // Whoever reads a program knows that it meets the limits.
     let _ = input.program.initial();
-    let entry = index as usize;
-    recall(alloc, input, labels, entry, replayer)?;
-    if !leads_out(alloc, input, labels, entry, first, replayer)? {
-        closed.push(index)?;
+    recall(alloc, input, labels, index, replayer)?;
+    if leads_out(alloc, input, labels, index, first, replayer)? {
+        return Ok(());
+    }
+    if index < marks.len() {
+        marks[index] = true;
     }
     Ok(())
 }
 
-/// Whether an entry stands at this place of those that were noted.
-fn is_noted(closed: &[u32], place: usize, index: usize) -> bool
-    ensures { IsTrue result → slice_get closed.now place ≡ Some index }
+/// Whether an entry is marked.
+fn is_marked(marks: &[bool], index: usize) -> bool
+    ensures { IsTrue result → slice_get marks.now index ≡ Some true }
 {
-    match closed.get(place) {
-        Some(entry) => *entry as usize == index,
+    match marks.get(index) {
+        Some(mark) => *mark,
         None => false,
     }
 }
 
-/// Whether each step of each entry's state reaches a state with the label of an entry. Those of the entries that were
-/// noted do. The fault names the line of the first entry with another step; the start is on line 2.
+/// Whether each step of each entry's state reaches a state with the label of an entry. Those of a marked entry do. The
+/// fault names the line of the first entry with another step; the start is on line 2.
 pub fn test_closed<M: Encode>(
     alloc: Global,
     input: &Input<'_, M>,
     labels: &Labels,
-    closed: &[u32],
+    marks: &[bool],
     replayer: &mut Replayer<M>,
 ) -> Result<(), CheckFault>
     requires kept { AreLabelsOf {Machine = M} (M.rules input.now.machine) input.now.program.now
         (named_by M.form_code (M.form_of input.now.machine)) input.now.lines.now labels.now }
     requires bounded { length input.now.lines.now < 2000000 }
     requires source { IsSource M.front_code M.behind_code labels.now replayer.old.source replayer.old.state }
-    requires closed { All (IsEntryClosed {Machine = M} (M.rules input.now.machine) input.now.program.now
-        (named_by M.form_code (M.form_of input.now.machine)) input.now.lines.now labels.now) closed.now }
+    requires marked { AreMarkedClosed {Machine = M} (M.rules input.now.machine) input.now.program.now
+        (named_by M.form_code (M.form_of input.now.machine)) input.now.lines.now labels.now marks.now }
     ensures pass { IfOk result
         (λ _. Pass M M.Form (M.rules input.now.machine) input.now.program.now input.now.lines.now) }
     ensures refused { IfErr result (λ fault. (fault ≡ CheckFault.OutOfMemory)
@@ -179,10 +181,8 @@ pub fn test_closed<M: Encode>(
     // Whoever reads a program knows that it meets the limits.
     let _ = input.program.initial();
     let none = input.lines.len();
-    let mut noted = 0;
     for i in 0..labels.len() {
-        if is_noted(closed, noted, i) {
-            noted += 1;
+        if is_marked(marks, i) {
             continue;
         }
         recall(alloc, input, labels, i, replayer)?;

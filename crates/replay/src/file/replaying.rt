@@ -1,14 +1,16 @@
 //! The replay of the entries of a book file, line by line.
-ghost use Rattle.std.specs.Prelude.{◌≡◌, ℕ, ◌+◌, ◌<◌, ◌≤◌, ◌⊎◌, [], All, List, None, length, IfOk, IfErr, IsTrue, OnOk, Some, slice_get, take};
+ghost use Rattle.std.specs.Prelude.{◌≡◌, ℕ, ◌+◌, ◌<◌, ◌≤◌, ◌⊎◌, [], List, None, Some, false, length, replicate};
+ghost use Rattle.std.specs.Prelude.{slice_get, take, IfOk, IfErr, IsTrue, OnOk};
 ghost use Rattle.sched_program.specs.declared.operation.OpId.{OpId};
 ghost use Rattle.tree_machine.specs.Step.{start, step, Fits};
 ghost use Rattle.tree_machine.specs.Undoing.{TakesBack};
 ghost use Rattle.tree_machine.specs.declared.state.State.{State};
-ghost use Rattle.replay.specs.BookFile.Kept.{AreLabelsOf, IsEntryClosed, IsSource, StandsForEntry};
+ghost use Rattle.replay.specs.BookFile.Kept.{AreLabelsOf, AreMarkedClosed, IsEntryClosed, IsSource};
+ghost use Rattle.replay.specs.BookFile.Kept.{StandsForEntry};
 ghost use Rattle.replay.specs.BookFile.Replays.{AreReplayed, IsAmiss, IsFirstAmiss, IsShown, IsUnshown, Tells};
 ghost use Rattle.replay.specs.Labels.{named_by};
 
-use crate::file::closing::note_closed;
+use crate::file::closing::mark_closed;
 use crate::file::fault::CheckFault;
 use crate::file::labels::Labels;
 use crate::file::line::BookLine;
@@ -16,7 +18,7 @@ use crate::file::recalling::{Input, recall};
 use crate::file::replayer::Replayer;
 use crate::lending::reply_since;
 use lin::check_order;
-use sched_program::{OpId, Program};
+use sched_program::{OpId, OutOfMemory, Program};
 use std::alloc::Global;
 use std::snapshot::Snapshot;
 use tree_machine::{Bytes, Encode, Naming, State, StepFault, Undo};
@@ -221,7 +223,7 @@ fn replay_line<M: Encode>(
     index: usize,
     labels: &mut Labels,
     replayer: &mut Replayer<M>,
-) -> Result<u32, CheckFault>
+) -> Result<usize, CheckFault>
     requires bounded { length input.now.lines.now < 2000000 }
     requires within { index < length input.now.lines.now }
     requires kept { AreLabelsOf {Machine = M} (M.rules input.now.machine) input.now.program.now
@@ -243,35 +245,44 @@ fn replay_line<M: Encode>(
     let earlier = input.up_to(index);
     let label = label_of_line(alloc, &earlier, labels, line, replayer)?;
     labels.push(label)?;
-    Ok(line.parent)
+    Ok(line.parent as usize)
 }
 
 /// Whether the line with this index states a step of an entry.
-fn has_parent(lines: &[BookLine], index: usize, parent: u32) -> bool {
+fn has_parent(lines: &[BookLine], index: usize, parent: usize) -> bool {
     match lines.get(index) {
-        Some(line) => line.parent == parent,
+        Some(line) => line.parent as usize == parent,
         None => false,
     }
 }
 
-/// The labels of the entries, the start's first, replayed one after the other; and entries each of whose steps has one
-/// of them. They are looked for behind the last of the lines that state steps of one entry, while the replayer has its
-/// state. The replayer has the start's state first.
+/// Marks for so many entries, none of which is marked.
+fn no_marks(alloc: Global, count: usize) -> Result<Vec<bool>, OutOfMemory>
+    ensures { IfOk result (λ marks. marks.items ≡ replicate count false) }
+{
+    let mut marks = Vec::new(alloc);
+    marks.resize(count, false)?;
+    Ok(marks)
+}
+
+/// The labels of the entries, the start's first, replayed one after the other; and marks of entries each of whose steps
+/// has one of them. That is tested behind the last of the lines that state steps of one entry, while the replayer has
+/// its state. The replayer has the start's state first.
 pub fn replay_lines<M: Encode>(
     alloc: Global,
     input: &Input<'_, M>,
     replayer: &mut Replayer<M>,
-) -> Result<(Labels, Vec<u32>), CheckFault>
+) -> Result<(Labels, Vec<bool>), CheckFault>
     requires bounded { length input.now.lines.now < 2000000 }
     requires start { replayer.old.state ≡ start (M.rules input.now.machine) input.now.program.now }
     requires fits { Fits (M.rules input.now.machine) input.now.program.now replayer.old.state }
     requires source { replayer.old.source ≡ None }
-    ensures kept { IfOk result (λ (labels, closed). AreLabelsOf {Machine = M} (M.rules input.now.machine)
+    ensures kept { IfOk result (λ (labels, marks). AreLabelsOf {Machine = M} (M.rules input.now.machine)
         input.now.program.now (named_by M.form_code (M.form_of input.now.machine)) input.now.lines.now labels) }
-    ensures closed { IfOk result (λ (labels, closed). All (IsEntryClosed {Machine = M} (M.rules input.now.machine)
-        input.now.program.now (named_by M.form_code (M.form_of input.now.machine)) input.now.lines.now labels)
-        closed.items) }
-    ensures source { IfOk result (λ (labels, closed). IsSource M.front_code M.behind_code labels replayer.new.source
+    ensures marked { IfOk result (λ (labels, marks). AreMarkedClosed {Machine = M} (M.rules input.now.machine)
+        input.now.program.now (named_by M.form_code (M.form_of input.now.machine)) input.now.lines.now labels
+        marks.items) }
+    ensures source { IfOk result (λ (labels, marks). IsSource M.front_code M.behind_code labels replayer.new.source
         replayer.new.state) }
     ensures amiss { IfErr result (λ fault. (fault ≡ CheckFault.OutOfMemory)
         ⊎ IsFirstAmiss M M.Form (M.rules input.now.machine) input.now.program.now input.now.lines.now fault) }
@@ -279,7 +290,7 @@ pub fn replay_lines<M: Encode>(
     let start = label_of_start(alloc, input, replayer)?;
     let mut labels = Labels::new(alloc);
     labels.push(start)?;
-    let mut closed = Vec::new(alloc);
+    let mut marks = no_marks(alloc, input.lines.len())?;
     let mut first = 0;
     for i in 0..input.lines.len() {
         let parent = replay_line(alloc, input, i, &mut labels, replayer)?;
@@ -288,8 +299,8 @@ pub fn replay_lines<M: Encode>(
             continue;
         }
         let so_far = input.up_to(next);
-        note_closed(alloc, &so_far, &labels, parent, first, &mut closed, replayer)?;
+        mark_closed(alloc, &so_far, &labels, parent, first, &mut marks, replayer)?;
         first = next;
     }
-    Ok((labels, closed))
+    Ok((labels, marks))
 }

@@ -1,8 +1,4 @@
 use Rattle.std.proofs.Common.{◌≡◌, ◌<◌, ◌≤◌, inr, length, arith}
-use Rattle.std.proofs.lemmas.List.Elements.{All-contains}
-use Rattle.lin.proofs.Lists.{Contains-slice_get}
-use Rattle.replay.specs.BookFile.Kept.{IsEntryClosed}
-use Rattle.replay.specs.Labels.{named_by}
 use Rattle.replay.proofs.BookFile.Known.{known_next, open_next, known_closed, stands_closed}
 use Rattle.replay.proofs.BookFile.Replayed.{count_labels}
 use Rattle.replay.proofs.file.closing.test_closed.Goals as goal
@@ -24,19 +20,13 @@ returns-then-branch-clause-refused g c =
     c.in_ok-recall.ensures.stands
     (c.in_ok-leads_out.ensures.out c.if-branch.true) c.loop-i.invariant.0)
 
-pub loop-i-preserved-then-is_noted : goal.loop-i-preserved-then-is_noted
-loop-i-preserved-then-is_noted g c =
+pub loop-i-preserved-then-is_marked : goal.loop-i-preserved-then-is_marked
+loop-i-preserved-then-is_marked g c =
     let bound = g.met.M.Machine g.world.𝓛 g.world.𝓜 g.world.𝓡 ((λ s x. x), (λ x. x), (λ x. x), λ x. x) in
-    let input = c.args.input.now in
-    let lines = input.lines.now in
-    let labels = c.args.labels.now in
-    let entries = c.args.closed.now in
-    let label = named_by g.M.Encode.form_code (g.M.Machine.form_of input.machine) in
-    let closed =
-    All-contains (IsEntryClosed (g.M.Machine.rules input.machine) input.program.now label lines labels) entries c.loop-i.i
-    c.requires.closed (Contains-slice_get entries c.loop-i.noted c.loop-i.i (c.is_noted.ensures c.if-is_noted.true)) in (
+    let input = c.args.input.now in (
       known_next (bound.lawful input.machine) c.initial.ensures.limits (bound.forms input.machine)
-          g.M.Encode.form_code lines labels c.loop-i.i closed c.loop-i.invariant.0,
+          g.M.Encode.form_code input.lines.now c.args.labels.now c.loop-i.i
+          (c.requires.marked c.loop-i.i (c.is_marked.ensures c.if-is_marked.true)) c.loop-i.invariant.0,
       c.loop-i.invariant.1,
     )
 
