@@ -16,7 +16,11 @@ use std::alloc::Global;
 use tree_machine::{Encode, ShortNote, State, StepOrigin, Thread};
 
 /// The operation that a thread has ended since `was`, with its reply, if it ended one.
-pub(crate) fn reply_since<M: Encode>(was: &Thread<M::Loc>, next: &State<M>, thread: u8) -> Option<(OpId, bool)>
+pub(crate) fn reply_since<M: Encode>(
+    was: &Thread<M::Loc>,
+    next: &State<M>,
+    thread: u8,
+) -> Option<(OpId, bool)>
     ensures { MatchOption result
         ((b : Standing M.Loc) → slice_get next.now.threads thread ≡ Some b
         → slice_get b.replies (length was.now.replies) ≡ None)

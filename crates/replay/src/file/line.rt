@@ -1,5 +1,5 @@
 //! A line of a book file.
-ghost use Rattle.std.specs.Prelude.{◌≡◌, IfOk};
+ghost use Rattle.std.specs.Prelude.{◌≡◌, ◌++◌, ◌∷◌, [], IfOk, OnOk};
 
 use sched_program::{OpId, OutOfMemory, Sequence, ShortList};
 use std::alloc::Global;
@@ -42,23 +42,44 @@ impl Model for Names {
     ghost view = { λ n. names_of n.storage };
 }
 
+/// Names, with one more behind them, in a list of their own.
+fn boxed(alloc: Global, names: &[OpId], name: OpId) -> Result<Box<Sequence<OpId>>, OutOfMemory>
+    ensures { IfOk result (λ longer. longer.value ≡ names.now ++ name ∷ []) }
+{
+    let mut longer = Sequence::new(alloc);
+    for known in names {
+        longer.push(*known)?;
+    }
+    longer.push(name)?;
+    Ok(Box::new(alloc, longer)?)
+}
+
 impl Names {
-    /// The names of a list.
-    pub fn of(alloc: Global, order: Sequence<OpId>) -> Result<Names, OutOfMemory>
-        ensures { IfOk result (λ names. names ≡ order) }
+    /// No names. It takes no memory.
+    pub fn new() -> Names
+        ensures { result ≡ [] }
     {
-        if order.len() > 7 {
-            return Ok(Names {
-                storage: Storage::Boxed(Box::new(alloc, order)?),
-            });
+        Names {
+            storage: Storage::Inline(ShortList::new()),
         }
-        let mut inline = ShortList::new();
-        for name in order.as_slice() {
-            inline.push(*name);
+    }
+
+    /// Appends a name.
+    pub fn push(&mut self, alloc: Global, name: OpId) -> Result<(), OutOfMemory>
+        ensures { OnOk result (self.new ≡ self.old ++ name ∷ []) }
+    {
+        match &mut self.storage {
+            Storage::Boxed(names) => names.push(name)?,
+            Storage::Inline(names) => {
+                if names.len() < 7 {
+                    names.push(name);
+                    return Ok(());
+                }
+                let longer = boxed(alloc, names.as_slice(), name)?;
+                self.storage = Storage::Boxed(longer);
+            }
         }
-        Ok(Names {
-            storage: Storage::Inline(inline),
-        })
+        Ok(())
     }
 
     /// The names.

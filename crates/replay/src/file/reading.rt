@@ -88,23 +88,23 @@ fn thread_of(text: &[u8]) -> Option<(u8, &[u8])>
 }
 
 /// The order whose names are the text.
-fn order_of(alloc: Global, text: &[u8]) -> Result<Option<Sequence<OpId>>, OutOfMemory>
+fn order_of(alloc: Global, text: &[u8]) -> Result<Option<Names>, OutOfMemory>
     ensures found { IfOk result (λ found. IfSome found (IsOrder text.now)) }
     ensures none { IfOk result (λ found. IfNone found ((order : List OpId) → ¬ IsOrder text.now order)) }
 {
-    let mut order = Sequence::new(alloc);
+    let mut order = Names::new();
     if text == b"-".as_slice() {
         return Ok(Some(order));
     }
     let Some((first, mut rest)) = name_of(text) else {
         return Ok(None);
     };
-    order.push(first)?;
+    order.push(alloc, first)?;
     while let Some(tail) = after_comma(rest) {
         let Some((name, after)) = name_of(tail) else {
             return Ok(None);
         };
-        order.push(name)?;
+        order.push(alloc, name)?;
         rest = after;
     }
     if rest.is_empty() {
@@ -132,7 +132,7 @@ fn line_of(alloc: Global, text: &[u8]) -> Result<Option<BookLine>, OutOfMemory>
         Some(order) => Ok(Some(BookLine {
             parent: parent as u32,
             thread,
-            order: Names::of(alloc, order)?,
+            order,
         })),
         None => Ok(None),
     }

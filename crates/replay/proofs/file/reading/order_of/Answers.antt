@@ -10,7 +10,7 @@ returns-in_default-name_of-clause-none c =
 pub loop-tail-preserved : goal.loop-tail-preserved
 loop-tail-preserved c =
     let name = c.in-Some-name_of.ensures.found in
-    rw c.in_ok-push-2.ensures.ok
+    rw c.in_ok-push-2.ensures
     (order_push c.loop-tail.invariant c.in-Some-after_comma.ensures.found name.1 name.0)
 
 pub returns-else-is_empty-clause-none : goal.returns-else-is_empty-clause-none

@@ -14,8 +14,10 @@ returns-in-None g c _ order shown =
       | else-not-reads-via-then-not-reads+else-not-ordered w ↦ search rules
       | else-not-reads-via-else-not-reads w ↦ rw (c.requires.back.same (sym c.reads.ensures ∙ w.if-not-reads.false))
           shown.0.1
-    ] in
-    ((astray, ordered), step_silent (g.M.Machine.rules c.args.machine) c.args.program.now c.args.source.now.value
-        c.args.next.now c.args.thread c.requires.step
-        (λ a b at_a at_b. rw (same_Some _ _ (sym at_a ∙ c.requires.back.was), ← c.thread.ensures)
-        (c.in-None.ensures b at_b)) order shown.1)
+    ] in (
+      (astray, ordered),
+      step_silent (g.M.Machine.rules c.args.machine) c.args.program.now c.args.source.now.value
+          c.args.next.now c.args.thread c.requires.step
+          (λ a b at_a at_b. rw (same_Some _ _ (sym at_a ∙ c.requires.back.was), ← c.thread.ensures)
+          (c.in-None.ensures b at_b)) order shown.1,
+    )

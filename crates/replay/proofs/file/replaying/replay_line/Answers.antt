@@ -48,15 +48,21 @@ returns-clause-parent g c =
     let within : line.parent < length kept.states =
     slice_get_within kept.states line.parent reached.parent reached.at in
     let within_labels : line.parent < length c.push.new.self =
-    rw c.in_ok-push.ensures (omega (arith, within, same_count kept kept.states kept.replayed,
-    length_push c.args.labels.now c.in_ok-label.label)) in
+    rw c.in_ok-push.ensures (omega (
+      arith,
+      within,
+      same_count kept kept.states kept.replayed,
+      length_push c.args.labels.now c.in_ok-label.label,
+    )) in
     rw (← c.index-input-index.is) within_labels
 
 pub returns-clause-closed : goal.returns-clause-closed
 returns-clause-closed g c entry closed =
     let input = c.args.input.now in
-    rw (take_next input.lines.now c.args.index c.index-input-index.result c.requires.within c.index-input-index.is,
-    c.in_ok-push.ensures)
+    rw (
+      take_next input.lines.now c.args.index c.index-input-index.result c.requires.within c.index-input-index.is,
+      c.in_ok-push.ensures,
+    )
     (still_closed (g.M.Machine.rules input.machine) input.program.now
     (named_by g.M.Encode.form_code (g.M.Machine.form_of input.machine)) _ c.index-input-index.result
     c.args.labels.now c.in_ok-label.label entry closed)
