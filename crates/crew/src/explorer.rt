@@ -60,7 +60,8 @@ fn explore_together<M: Encode, G: Gate, R: Threads + Wait + Sync>(
     let book = Book::open(alloc, machine, program.copy(alloc)?, limit, options.merge())?;
     let book = RwLock::new(book);
     let (cut, shares) = work_of_all(rt, alloc, machine, program, options, gate, &book)?;
-    report_of(alloc, machine, program, options, book.into_inner(), cut, shares)
+    let book = book.into_inner();
+    report_of(alloc, machine, program, options, book, cut, shares)
 }
 
 /// Explores every schedule of a program up to the options' number of steps, by the options' number
