@@ -102,7 +102,8 @@ module _ {X Memory Place Form : Type 0} {rules : X → Rules Memory Place} {b : 
   -- where entries of at most n steps are sound, and those of fewer expanded, every schedule of at most n steps holds
   holds_to : (n : ℕ) → IsExpandedBelow m.steps b.entries n → AreSoundTo n → Holds n
   holds_to n done sound c s short leads =
-      let w = stands_after m known.test.0 right known.machine known.test.1 b.entries by_test.law n done c s short leads in
+      let w =
+      stands_after m known.test.0 right known.machine known.test.1 b.entries by_test.law n done c s short leads in
       let e_fits = known.law.law.fit w.0 w.1 w.2 in
       let s_fits = fits_after m known.machine c s leads in
       sound_correct (rules b.machine) b.program s (

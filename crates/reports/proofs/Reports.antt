@@ -41,8 +41,8 @@ module _ {X Memory Place Form : Type 0} (rules : X → Rules Memory Place) (mach
   only_here : (answer : Answer) → IsDueIn (length book.entries) answer → (count : ℕ) (other : Answer)
       → IsDueIn count other → IsSameVerdict (length book.entries) answer count other
   only_here answer due count other also =
-      one_verdict keeps test (right_in rules book) book.merge settings.steps book.limit (length book.entries) count answer
-      other due also
+      one_verdict keeps test (right_in rules book) book.merge settings.steps book.limit (length book.entries) count
+      answer other due also
 
   -- what was read off the book that was asked for makes a report
   pub reported : (read : Contents X (State X Memory Place Form)) (answer : Answer) (counts : Totals)

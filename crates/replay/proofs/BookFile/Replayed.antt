@@ -187,8 +187,8 @@ module _ {Machine Memory Place Form : Type 0} {rules : Rules Memory Place} {prog
           states = so.states ++ w.0 ∷ [];
           replayed = (
             so.replayed.0,
-            rw (take_next lines i line less is) (continues_push rules program (start rules program ∷ []) (take i lines) line so.states w.0
-                so.replayed.1 w.1),
+            rw (take_next lines i line less is) (continues_push rules program (start rules program ∷ []) (take i lines)
+                line so.states w.0 so.replayed.1 w.1),
           );
           labelled = made ∙ (λ j. so.labelled j ++ w.2 j ∷ []) ∙ sym (map-append label_of so.states (w.0 ∷ []));
         }

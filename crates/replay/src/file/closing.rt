@@ -4,7 +4,8 @@ ghost use Rattle.std.specs.Prelude.{IsTrue, Some, slice_get};
 ghost use Rattle.tree_machine.specs.Step.{Fits, step};
 ghost use Rattle.tree_machine.specs.declared.state.State.{State};
 ghost use Rattle.replay.specs.BookFile.Checks.{AreRefused, Pass};
-ghost use Rattle.replay.specs.BookFile.Kept.{AreLabelsOf, AreMarkedClosed, AreStepsKnown, IsSource, IsStepUnknown, StandsForEntry};
+ghost use Rattle.replay.specs.BookFile.Kept.{AreLabelsOf, AreMarkedClosed, AreStepsKnown, IsSource};
+ghost use Rattle.replay.specs.BookFile.Kept.{IsStepUnknown, StandsForEntry};
 ghost use Rattle.replay.specs.Labels.{named_by};
 ghost use Rattle.replay.specs.declared.file.line.BookLine.{BookLine};
 

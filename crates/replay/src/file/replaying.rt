@@ -65,8 +65,8 @@ fn order_of_entry<'a, M: Encode>(input: &'a Input<'_, M>, index: usize) -> &'a [
     input.lines[index - 1].order.as_slice()
 }
 
-/// Whether what shows the state before a step shows the state after it, too: nothing is at fault there, and the step ended
-/// no operation.
+/// Whether what shows the state before a step shows the state after it, too: nothing is at fault there, and the step
+/// ended no operation.
 fn is_still_shown<M: Encode>(
     machine: M,
     program: &Program,

@@ -6,7 +6,8 @@ pub returns-in-Err-NotEnabled-clause-yes : goal.returns-in-Err-NotEnabled-clause
 returns-in-Err-NotEnabled-clause-yes g c =
     let m = machine_in g.M.Machine.rules c.args.book.now in
     let stops =
-    rw (c.in-Err-NotEnabled.field-0-is, c.machine.ensures, c.requires.program) at c.in-Err-NotEnabled.ensures.not_enabled
+    rw (c.in-Err-NotEnabled.field-0-is, c.machine.ensures, c.requires.program) at
+    c.in-Err-NotEnabled.ensures.not_enabled
     in
     let none = stopped m m.start c.args.schedule.now c.in-Err-NotEnabled.field-0-0 stops.3 in
     λ _. cc (c.requires.way.2, none)

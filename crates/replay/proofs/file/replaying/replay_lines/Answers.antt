@@ -24,7 +24,8 @@ returns-in_err-start-clause-amiss g c =
 pub mark_closed-requires-clause-marked : goal.mark_closed-requires-clause-marked
 mark_closed-requires-clause-marked g c κs within =
     let so_far = c.up_to-so_far.ensures in
-    rw (so_far.machine, so_far.program, so_far.lines) (λ i at. c.in_ok-parent.ensures.closed i (c.loop-i.invariant.2 i at))
+    rw (so_far.machine, so_far.program, so_far.lines)
+    (λ i at. c.in_ok-parent.ensures.closed i (c.loop-i.invariant.2 i at))
 
 pub loop-i-preserved-then-has_parent : goal.loop-i-preserved-then-has_parent
 loop-i-preserved-then-has_parent g c = (
